@@ -8,15 +8,16 @@ ghost use Rattle.machine.specs.Running.{slot_table_of};
 ghost use Rattle.sig_header.specs.AreaKind.{area_kind};
 ghost use Rattle.plain_machine.specs.UsableArea.{kind_fault};
 ghost use Rattle.sector_disk.specs.Called.{Called, OneCall};
-ghost use Rattle.image_write.specs.Answers.{Succeeds, GoesOn};
-ghost use Rattle.image_write.specs.Writing.{IsWriting, IsReady, AreOfImage, HasReadCopies, Makes, FailsToMake};
+ghost use Rattle.image_write.specs.Answers.{Succeeds};
+ghost use Rattle.image_write.specs.Steps.{HasSlots, KeepsSlots, Advances, ReadsOn};
+ghost use Rattle.image_write.specs.Writing.{IsReady, AreOfImage, HasReadCopies, Makes, FailsToMake};
 ghost use Rattle.image_write.specs.Writing.{writes_of};
 ghost use Rattle.hib_core.specs.Writes.{Writes};
 
 use crate::Hib;
 use crate::hib::{Saving, Stage};
 use frame_arena::Frames;
-use image_write::{WriteStep, Writer};
+use image_write::{Sets, WriteStep, Writer};
 use machine::{Machine, slot_table};
 use page_core::{Failed, Page};
 use plain_machine::{Left, NoSwap, Reply};
@@ -178,8 +179,7 @@ fn write_step<D: Disk>(
     runs: &mut FreeRuns,
     disk: &mut D,
 ) -> WriteStep
-    requires table { LiesIn frames.old writer.old.table }
-    requires matches { Matches frames.old writer.old.table runs.old }
+    requires slots { HasSlots frames.old writer.old.table runs.old }
     requires ready { IsReady (D.block_count disk.old) frames.old writer.old }
     requires sets { AreOfImage writer.old.info snapshot.now.origs snapshot.now.copies snapshot.now.zeros }
     requires copies { All (λ p. p < length frames.old) snapshot.now.copies }
@@ -191,19 +191,19 @@ fn write_step<D: Disk>(
     ensures failed { result ≡ WriteStep.Fault →
         Writes FailsToMake frames.old frames.new snapshot.now writer.old writer.new (D.content disk.old)
         (D.content disk.new) }
-    ensures written { Succeeds result → writer.new.written ≡ writer.old.written + 1 }
-    ensures goes_on { GoesOn result → (free : List ℕ) → IsWriting free frames.old writer.old →
-        IsWriting free frames.new writer.new }
-    ensures reading { GoesOn result →
-        HasReadCopies snapshot.now.origs snapshot.now.copies snapshot.now.zeros writer.new }
+    ensures writer { Advances (ReadsOn snapshot.now.origs snapshot.now.copies snapshot.now.zeros result) result
+        frames.old frames.new writer.old writer.new }
     ensures pages { All IsPage frames.old }
-    ensures size { length frames.new ≡ length frames.old }
-    ensures matches { Matches frames.new writer.old.table runs.new }
+    ensures kept { KeepsSlots writer.old.table frames.old frames.new runs.old runs.new }
     ensures called { Called D.Disk OneCall (result ≡ WriteStep.Fault) disk.old disk.new }
 {
     let _ = frames.len();
-    let (origs, copies, zeros) = (snapshot.origs(), snapshot.copies(), snapshot.zeros());
-    writer.step(frames, runs, disk, origs, copies, zeros)
+    let sets = Sets {
+        origs: snapshot.origs(),
+        copies: snapshot.copies(),
+        zeros: snapshot.zeros(),
+    };
+    writer.step(frames, runs, disk, &sets)
 }
 
 /// Why a header block isn't that of a version 1 area, if it isn't.

@@ -1,6 +1,7 @@
 -- A map is written, and the next one begun.
-use Rattle.std.proofs.Common.{◌≡◌, Bool, false, ℕ, ◌+◌, ◌-◌, ◌*◌, ◌/◌, ◌%◌, ◌<◌, ◌≤◌, ◌⊎◌, List, [], length, get_or, take, drop, min, cond, eqb, refl, sym, ap, ap₂, ◌∙◌, subst, inl, inr, ⊎_elim, arith, true}
+use Rattle.std.proofs.Common.{◌≡◌, Bool, false, ℕ, ◌+◌, ◌-◌, ◌*◌, ◌/◌, ◌%◌, ◌<◌, ◌≤◌, ◌⊎◌, List, [], Option, length, get_or, take, drop, min, cond, eqb, refl, sym, ap, ap₂, ◌∙◌, subst, inl, inr, ⊎_elim, arith, true}
 use Rattle.std.proofs.lemmas.Bool.{cases_eq, cond-true, cond-false, eq-eqb, ne_eqb}
+use Rattle.definitions.specs.Disk.{Content, Changes}
 use Rattle.definitions.specs.SwapMap.{map_page}
 use Rattle.definitions.specs.Tables.{with_entry, with_entries}
 use Rattle.definitions.specs.declared.info.Info.{Info}
@@ -9,6 +10,7 @@ use Rattle.definitions.proofs.TableEntries.{with_entries-none}
 use Rattle.definitions.proofs.FreeSlots.{IsStrictlyIncreasing-free_slots, free_slot}
 use Rattle.definitions.proofs.Ascending.{length-between}
 use Rattle.swap_map.specs.MapPages.{MapEntries}
+use Rattle.swap_slots.specs.Runs.{SlotRuns}
 use Rattle.swap_slots.specs.Table.{free_in}
 use Rattle.swap_slots.specs.declared.table.SlotTable.{SlotTable}
 use Rattle.plain_machine.specs.Image.{maps_of}
@@ -17,7 +19,8 @@ use Rattle.plain_machine.specs.Image.{page_of_write, page_place}
 use Rattle.image_write.specs.Answers.{after, Succeeds, GoesOn}
 use Rattle.image_write.specs.declared.write_step.WriteStep.{WriteStep}
 use Rattle.image_write.specs.declared.write_step.WriteStep.TheVariants.{More, Done, Fault}
-use Rattle.image_write.specs.Writing.{Writing, IsWriting, HasTaken, taken_after, writes_of, slots_of_write, data_written}
+use Rattle.image_write.specs.Steps.{TakesSlots, WritesPage}
+use Rattle.image_write.specs.Writing.{Writing, IsWriting, IsSameImage, HasTaken, taken_after, writes_of, write_next, slots_of_write, data_written}
 use Rattle.image_write.proofs.Places.{map_write, same_page, full_entries, last_entries}
 use Rattle.image_write.proofs.Taking.{IsTable, taken_more}
 
@@ -103,6 +106,15 @@ pub write_of_map : (extents : List (ℕ × ℕ × ℕ)) (free : List ℕ) (pages
 write_of_map extents free pages k page is =
     cond-true (is_map_write pages k) (laid_block extents free (map_place (k / 512)), laid_map extents free pages (k / 512)) (laid_block extents free (page_place (page_of_write k)), page) is
 
+-- and a write of a page, as it is made or fails
+pub write_of_page : (R : ℕ → List ℕ → Content → Content → Type 0) (free : List ℕ) (w : Writing) (page page' : List ℕ) (b : ℕ) (old new : Option Content) → is_map_write w.info.pages w.written ≡ false → b ≡ laid_block w.extents free (page_place (page_of_write w.written)) → page' ≡ page →
+    Changes (R b page') old new → Changes (R (write_next free w page).0 (write_next free w page).1) old new
+write_of_page R free w page page' b old new isn't block same made =
+    let place = laid_block w.extents free (page_place (page_of_write w.written)) in
+    let is : write_next free w page ≡ (place, page) = cond-false (is_map_write w.info.pages w.written) (laid_block w.extents free (map_place (w.written / 512)), laid_map w.extents free w.info.pages (w.written / 512)) (place, page) isn't in
+    let there : Changes (R place page) old new = subst (λ (b : ℕ). Changes (R b page) old new) block (subst (λ (p : List ℕ). Changes (R b p) old new) same made) in
+    subst (λ (at : ℕ × List ℕ). Changes (R at.0 at.1) old new) (sym is) there
+
 -- it takes no slot
 pub frames_of_map : (frames : List (List ℕ)) (table : ℕ) (info : Info) (free : List ℕ) (k : ℕ) → is_map_write info.pages k ≡ true → frames ≡ with_entries frames table (slots_of_write info free k) 65536
 frames_of_map frames table info free k is =
@@ -129,6 +141,21 @@ read_on free frames w orig copy passed h = record {
   entries = h.entries;
   link = h.link;
   next = h.next;
+}
+
+pub image_on : (w : Writing) (orig copy passed : ℕ) (now : Writing) → IsSameImage (record w { orig = orig; copy = copy; passed = passed }) now → IsSameImage w now
+image_on w orig copy passed now same = record { info = same.info; extents = same.extents; table = same.table; first = same.first }
+
+pub writes_on : (page : List ℕ) (answer : WriteStep) (frames : List (List ℕ)) (w : Writing) (orig copy passed : ℕ) (old new : Option Content) → WritesPage page answer frames (record w { orig = orig; copy = copy; passed = passed }) old new → WritesPage page answer frames w old new
+writes_on page answer frames w orig copy passed old new made = record {
+  written = λ free h done. made.written free (read_on free frames w orig copy passed h) done;
+  failed = λ free h fault. made.failed free (read_on free frames w orig copy passed h) fault;
+}
+
+pub takes_on : (w : Writing) (orig copy passed : ℕ) (old new : List (List ℕ)) (was now : SlotRuns) → TakesSlots (record w { orig = orig; copy = copy; passed = passed }) old new was now → TakesSlots w old new was now
+takes_on w orig copy passed old new was now takes = record {
+  taken = λ free h. takes.taken free (read_on free old w orig copy passed h);
+  kept = takes.kept;
 }
 
 pub succeeds : (answer : WriteStep) → GoesOn answer → Succeeds answer

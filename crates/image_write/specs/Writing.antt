@@ -10,7 +10,7 @@ use Rattle.swap_map.specs.MapPages.{MapEntries}
 use Rattle.swap_slots.specs.Table.{free_in}
 use Rattle.swap_slots.specs.declared.table.SlotTable.{SlotTable}
 use Rattle.plain_machine.specs.Image.{maps_of, stream_pages}
-use Rattle.plain_machine.specs.Image.{page_place, map_place, laid_block, laid_entries, laid_map, laid_write}
+use Rattle.plain_machine.specs.Image.{page_place, map_place, laid_block, laid_entries, laid_write}
 use Rattle.plain_machine.specs.Image.{is_map_write, page_of_write}
 use Rattle.image_write.specs.Copies.{with_data, data_pages, IsPassed}
 
@@ -80,11 +80,6 @@ page_next stream w = slice_index_or stream (page_of_write w.written) []
 
 abbrev pub write_next : List ℕ → Writing → List ℕ → ℕ × List ℕ
 write_next free w page = laid_write w.extents free w.info.pages page w.written
-
--- the map that is filled, and its block
-abbrev pub map_next : List ℕ → Writing → ℕ × List ℕ
-map_next free w =
-    (laid_block w.extents free (map_place (w.written / 512)), laid_map w.extents free w.info.pages (w.written / 512))
 
 -- a write is made, or fails
 abbrev pub Makes : ℕ × List ℕ → Content → Content → Type 0

@@ -2,9 +2,11 @@
 #![tactic(auto)]
 
 mod copies;
+mod sets;
 mod stream;
 mod write_step;
 mod writer;
 
+pub use sets::Sets;
 pub use write_step::WriteStep;
 pub use writer::Writer;

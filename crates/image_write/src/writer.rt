@@ -1,24 +1,24 @@
 ghost use Rattle.std.specs.Prelude.{◌≡◌, ◌⊎◌, ℕ, ◌+◌, ◌-◌, ◌*◌, ◌/◌, ◌%◌, ◌^◌, ◌<◌, ◌≤◌, List, ◌↔◌, false, true};
-ghost use Rattle.std.specs.Prelude.{IsTrue, All, length, take, slice_index, option_copied};
-ghost use Rattle.definitions.specs.Disk.{Changes};
+ghost use Rattle.std.specs.Prelude.{IsTrue, All, length, take, slice_index};
 ghost use Rattle.definitions.specs.Bytes.{IsPage};
 ghost use Rattle.definitions.specs.Slots.{block_of};
 ghost use Rattle.image_write.specs.Answers.{after};
+ghost use Rattle.image_write.specs.Steps.{HasSlots, KeepsSlots};
 ghost use Rattle.image_write.specs.Writing.{writes_of};
 ghost use Rattle.definitions.specs.NumberPages.{meta_of, marked_numbers};
 ghost use Rattle.definitions.specs.Tables.{frame, with_entry, with_entries};
 ghost use Rattle.plain_machine.specs.Image.{stream_pages};
-ghost use Rattle.swap_slots.specs.Table.{LiesIn, Matches, free_in};
-ghost use Rattle.pfn_pack.specs.Places.{members_in};
+ghost use Rattle.swap_slots.specs.Table.{free_in};
+ghost use Rattle.image_write.specs.Sets.{origs_of, copies_of, zeros_of};
 ghost use Rattle.plain_machine.specs.Image.{laid_block, is_map_write, page_of_write, page_place};
 ghost use Rattle.sector_disk.specs.Called.{Called, OneCall};
 
 use crate::WriteStep;
 use crate::copies::Cursor;
+use crate::sets::Sets;
 use crate::stream::head_page;
 use frame_arena::Frames;
 use image_header::Info;
-use memory_bitmap::Bitmap;
 use page_core::{Failed, Page};
 use sector_disk::Disk;
 use std::marker::Model;
@@ -55,10 +55,9 @@ impl Model for Writer {
 }
 
 impl Writer {
-    ghost use Rattle.image_write.specs.Answers.{Succeeds, GoesOn};
     ghost use Rattle.image_write.specs.Copies.{IsPassed};
-    ghost use Rattle.image_write.specs.Writing.{IsWriting, IsReady, BlocksBelow, IsSameImage, Makes, FailsToMake};
-    ghost use Rattle.image_write.specs.Writing.{page_next, write_next, map_next, IsSameCursor, slots_of_write};
+    ghost use Rattle.image_write.specs.Steps.{TakesSlots, WritesPage, HasBegun, Advances, ReadsOn};
+    ghost use Rattle.image_write.specs.Writing.{IsWriting, IsReady, BlocksBelow, IsSameImage, page_next, IsSameCursor};
     ghost use Rattle.image_write.specs.Writing.{AreOfImage, HasReadCopies, stream_of_sets};
 
     /// Takes the slot of the first map.
@@ -69,23 +68,16 @@ impl Writer {
         map: &FileMap,
         info: &Info,
     ) -> Writer
-        requires table { LiesIn frames.old table.now }
-        requires matches { Matches frames.old table.now runs.old }
+        requires slots { HasSlots frames.old table.now runs.old }
         requires room { writes_of info.now ≤ length (free_in frames.old table.now) }
         requires blocks { BlocksBelow map.now (free_in frames.old table.now) (writes_of info.now) (2 ^ 32) }
 
-        ensures info { result.info ≡ info.now }
-        ensures extents { result.extents ≡ map.now }
-        ensures table { result.table ≡ table.now }
-        ensures written { result.written ≡ 0 }
-        ensures writing { IsWriting (free_in frames.old table.now) frames.new result }
+        ensures begun { HasBegun info.now map.now table.now (free_in frames.old table.now) frames.new result }
         ensures reading { (origs copies zeros : List ℕ) → HasReadCopies origs copies zeros result }
 
         ensures taken { frames.new ≡ with_entries frames.old table.now.first
             (take 1 (free_in frames.old table.now)) 65536 }
-        ensures len { length frames.new ≡ length frames.old }
-        ensures runs { Matches frames.new table.now runs.new }
-        ensures runs_room { runs.new.room ≡ runs.old.room }
+        ensures kept { KeepsSlots table.now frames.old frames.new runs.old runs.new }
     {
         // Fewer than 2^32 slots are free.
         let _ = table.free_count(frames, runs);
@@ -111,59 +103,38 @@ impl Writer {
     }
 
     /// Makes the next write: that of a page of the image, or of a map. The pages are the info page, the number pages of
-    /// `origs`, and the copies in `copies` of those that aren't in `zeros`.
+    /// the originals, and the copies of those that have data.
     pub fn step<D: Disk>(
         &mut self,
         frames: &mut Frames,
         runs: &mut FreeRuns,
         disk: &mut D,
-        origs: &Bitmap,
-        copies: &Bitmap,
-        zeros: Option<&Bitmap>,
+        sets: &Sets,
     ) -> WriteStep
-        requires table { LiesIn frames.old self.old.table }
-        requires matches { Matches frames.old self.old.table runs.old }
+        requires slots { HasSlots frames.old self.old.table runs.old }
         requires writing { IsReady (D.block_count disk.old) frames.old self.old }
-        requires sets { AreOfImage self.old.info origs.now.members copies.now.members
-            (members_in (option_copied zeros)) }
-        requires copies { All (λ p. p < length frames.old) copies.now.members }
-        requires reading { HasReadCopies origs.now.members copies.now.members (members_in (option_copied zeros))
-            self.old }
+        requires sets { AreOfImage self.old.info (origs_of sets.now) (copies_of sets.now) (zeros_of sets.now) }
+        requires copies { All (λ p. p < length frames.old) (copies_of sets.now) }
+        requires reading { HasReadCopies (origs_of sets.now) (copies_of sets.now) (zeros_of sets.now) self.old }
 
         ensures answer { (result ≡ WriteStep.Fault)
             ⊎ (result ≡ after (self.old.written + 1) (writes_of self.old.info)) }
-        ensures written { (free : List ℕ) → IsWriting free frames.old self.old → Succeeds result →
-            let page = page_next (stream_of_sets self.old.info frames.old origs.now.members copies.now.members
-            (members_in (option_copied zeros.entry))) self.old in
-            Changes (Makes (write_next free self.old page)) (D.content disk.old) (D.content disk.new) }
-        ensures failed { (free : List ℕ) → IsWriting free frames.old self.old → result ≡ WriteStep.Fault →
-            let page = page_next (stream_of_sets self.old.info frames.old origs.now.members copies.now.members
-            (members_in (option_copied zeros.entry))) self.old in
-            Changes (FailsToMake (write_next free self.old page)) (D.content disk.old) (D.content disk.new) }
-
+        ensures page { WritesPage (page_next (stream_of_sets self.old.info frames.old (origs_of sets.now)
+            (copies_of sets.now) (zeros_of sets.now)) self.old) result frames.old self.old
+            (D.content disk.old) (D.content disk.new) }
         ensures called { Called D.Disk OneCall (result ≡ WriteStep.Fault) disk.old disk.new }
 
-        ensures image { IsSameImage self.old self.new }
-        ensures made { Succeeds result → self.new.written ≡ self.old.written + 1 }
-        ensures writing { (free : List ℕ) → IsWriting free frames.old self.old → GoesOn result →
-            IsWriting free frames.new self.new }
-        ensures reading { GoesOn result →
-            HasReadCopies origs.now.members copies.now.members (members_in (option_copied zeros.entry)) self.new }
-
-        ensures taken { (free : List ℕ) → IsWriting free frames.old self.old →
-            frames.new ≡ with_entries frames.old self.old.table.first
-            (slots_of_write self.old.info free self.old.written) 65536 }
-        ensures len { length frames.new ≡ length frames.old }
-        ensures runs { Matches frames.new self.old.table runs.new }
-        ensures room { runs.new.room ≡ runs.old.room }
+        ensures writer { Advances (ReadsOn (origs_of sets.now) (copies_of sets.now) (zeros_of sets.now) result) result
+            frames.old frames.new self.old self.new }
+        ensures slots { TakesSlots self.old frames.old frames.new runs.old runs.new }
     {
         if self.is_at_map() {
             return self.write_map(disk);
         }
-        if self.is_at_head(origs) {
-            return self.write_head(frames, runs, disk, origs, zeros);
+        if self.is_at_head(sets) {
+            return self.write_head(frames, runs, disk, sets);
         }
-        let copy = self.next_copy(frames, origs, copies, zeros);
+        let copy = self.next_copy(frames, sets);
         self.write_copy(frames, runs, disk, copy)
     }
 
@@ -175,31 +146,16 @@ impl Writer {
         disk: &mut D,
         page: &Page,
     ) -> WriteStep
-        requires table { LiesIn frames.old self.old.table }
-        requires matches { Matches frames.old self.old.table runs.old }
+        requires slots { HasSlots frames.old self.old.table runs.old }
         requires writing { IsReady (D.block_count disk.old) frames.old self.old }
 
         ensures answer { (result ≡ WriteStep.Fault)
             ⊎ (result ≡ after (self.old.written + 1) (writes_of self.old.info)) }
-        ensures written { (free : List ℕ) → IsWriting free frames.old self.old → Succeeds result →
-            Changes (Makes (write_next free self.old page.now)) (D.content disk.old) (D.content disk.new) }
-        ensures failed { (free : List ℕ) → IsWriting free frames.old self.old → result ≡ WriteStep.Fault →
-            Changes (FailsToMake (write_next free self.old page.now)) (D.content disk.old) (D.content disk.new) }
-
+        ensures page { WritesPage page.now result frames.old self.old (D.content disk.old) (D.content disk.new) }
         ensures called { Called D.Disk OneCall (result ≡ WriteStep.Fault) disk.old disk.new }
 
-        ensures image { IsSameImage self.old self.new }
-        ensures made { Succeeds result → self.new.written ≡ self.old.written + 1 }
-        ensures writing { (free : List ℕ) → IsWriting free frames.old self.old → GoesOn result →
-            IsWriting free frames.new self.new }
-        ensures cursor { IsSameCursor self.old self.new }
-
-        ensures taken { (free : List ℕ) → IsWriting free frames.old self.old →
-            frames.new ≡ with_entries frames.old self.old.table.first
-            (slots_of_write self.old.info free self.old.written) 65536 }
-        ensures len { length frames.new ≡ length frames.old }
-        ensures runs { Matches frames.new self.old.table runs.new }
-        ensures room { runs.new.room ≡ runs.old.room }
+        ensures writer { Advances IsSameCursor result frames.old frames.new self.old self.new }
+        ensures slots { TakesSlots self.old frames.old frames.new runs.old runs.new }
     {
         if self.is_at_map() {
             return self.write_map(disk);
@@ -215,45 +171,25 @@ impl Writer {
         frames: &mut Frames,
         runs: &mut FreeRuns,
         disk: &mut D,
-        origs: &Bitmap,
-        zeros: Option<&Bitmap>,
+        sets: &Sets,
     ) -> WriteStep
-        requires table { LiesIn frames.old self.old.table }
-        requires matches { Matches frames.old self.old.table runs.old }
+        requires slots { HasSlots frames.old self.old.table runs.old }
         requires writing { IsReady (D.block_count disk.old) frames.old self.old }
         requires page { is_map_write self.old.info.pages self.old.written ≡ false }
-        requires originals { length origs.now.members ≡ self.old.info.image_pages }
+        requires originals { length (origs_of sets.now) ≡ self.old.info.image_pages }
         requires head { page_of_write self.old.written ≤ meta_of self.old.info.image_pages }
 
         ensures answer { (result ≡ WriteStep.Fault)
             ⊎ (result ≡ after (self.old.written + 1) (writes_of self.old.info)) }
-        ensures written { (free : List ℕ) (saved : List (List ℕ)) → IsWriting free frames.old self.old →
-            Succeeds result →
-            let page = page_next (stream_pages self.old.info
-            (marked_numbers origs.now.members (members_in (option_copied zeros.entry))) saved) self.old in
-            Changes (Makes (write_next free self.old page)) (D.content disk.old) (D.content disk.new) }
-        ensures failed { (free : List ℕ) (saved : List (List ℕ)) → IsWriting free frames.old self.old →
-            result ≡ WriteStep.Fault →
-            let page = page_next (stream_pages self.old.info
-            (marked_numbers origs.now.members (members_in (option_copied zeros.entry))) saved) self.old in
-            Changes (FailsToMake (write_next free self.old page)) (D.content disk.old) (D.content disk.new) }
-
+        ensures page { (saved : List (List ℕ)) → WritesPage (page_next (stream_pages self.old.info
+            (marked_numbers (origs_of sets.now) (zeros_of sets.now)) saved) self.old) result frames.old self.old
+            (D.content disk.old) (D.content disk.new) }
         ensures called { Called D.Disk OneCall (result ≡ WriteStep.Fault) disk.old disk.new }
 
-        ensures image { IsSameImage self.old self.new }
-        ensures made { Succeeds result → self.new.written ≡ self.old.written + 1 }
-        ensures writing { (free : List ℕ) → IsWriting free frames.old self.old → GoesOn result →
-            IsWriting free frames.new self.new }
-        ensures cursor { IsSameCursor self.old self.new }
-
-        ensures taken { (free : List ℕ) → IsWriting free frames.old self.old →
-            frames.new ≡ with_entries frames.old self.old.table.first
-            (slots_of_write self.old.info free self.old.written) 65536 }
-        ensures len { length frames.new ≡ length frames.old }
-        ensures runs { Matches frames.new self.old.table runs.new }
-        ensures room { runs.new.room ≡ runs.old.room }
+        ensures writer { Advances IsSameCursor result frames.old frames.new self.old self.new }
+        ensures slots { TakesSlots self.old frames.old frames.new runs.old runs.new }
     {
-        let page = self.next_head(origs, zeros);
+        let page = self.next_head(sets);
         self.write_page(frames, runs, disk, &page)
     }
 
@@ -266,32 +202,17 @@ impl Writer {
         disk: &mut D,
         page: &Page,
     ) -> WriteStep
-        requires table { LiesIn frames.old self.old.table }
-        requires matches { Matches frames.old self.old.table runs.old }
+        requires slots { HasSlots frames.old self.old.table runs.old }
         requires writing { IsReady (D.block_count disk.old) frames.old self.old }
         requires page { is_map_write self.old.info.pages self.old.written ≡ false }
 
         ensures answer { (result ≡ WriteStep.Fault)
             ⊎ (result ≡ after (self.old.written + 1) (writes_of self.old.info)) }
-        ensures written { (free : List ℕ) → IsWriting free frames.old self.old → Succeeds result →
-            Changes (Makes (write_next free self.old page.now)) (D.content disk.old) (D.content disk.new) }
-        ensures failed { (free : List ℕ) → IsWriting free frames.old self.old → result ≡ WriteStep.Fault →
-            Changes (FailsToMake (write_next free self.old page.now)) (D.content disk.old) (D.content disk.new) }
-
+        ensures page { WritesPage page.now result frames.old self.old (D.content disk.old) (D.content disk.new) }
         ensures called { Called D.Disk OneCall (result ≡ WriteStep.Fault) disk.old disk.new }
 
-        ensures image { IsSameImage self.old self.new }
-        ensures made { Succeeds result → self.new.written ≡ self.old.written + 1 }
-        ensures writing { (free : List ℕ) → IsWriting free frames.old self.old → GoesOn result →
-            IsWriting free frames.new self.new }
-        ensures cursor { IsSameCursor self.old self.new }
-
-        ensures taken { (free : List ℕ) → IsWriting free frames.old self.old →
-            frames.new ≡ with_entries frames.old self.old.table.first
-            (slots_of_write self.old.info free self.old.written) 65536 }
-        ensures len { length frames.new ≡ length frames.old }
-        ensures runs { Matches frames.new self.old.table runs.new }
-        ensures room { runs.new.room ≡ runs.old.room }
+        ensures writer { Advances IsSameCursor result frames.old frames.new self.old self.new }
+        ensures slots { TakesSlots self.old frames.old frames.new runs.old runs.new }
     {
         let writes = writes(&self.info);
         let block = self.take_page(frames, runs);
@@ -310,35 +231,19 @@ impl Writer {
         disk: &mut D,
         copy: u32,
     ) -> WriteStep
-        requires table { LiesIn frames.old self.old.table }
-        requires matches { Matches frames.old self.old.table runs.old }
+        requires slots { HasSlots frames.old self.old.table runs.old }
         requires writing { IsReady (D.block_count disk.old) frames.old self.old }
         requires copy { copy < length frames.old }
         requires page { is_map_write self.old.info.pages self.old.written ≡ false }
 
         ensures answer { (result ≡ WriteStep.Fault)
             ⊎ (result ≡ after (self.old.written + 1) (writes_of self.old.info)) }
-        ensures written { (free : List ℕ) → IsWriting free frames.old self.old → Succeeds result →
-            Changes (Makes (write_next free self.old (frame frames.old copy))) (D.content disk.old)
+        ensures page { WritesPage (frame frames.old copy) result frames.old self.old (D.content disk.old)
             (D.content disk.new) }
-        ensures failed { (free : List ℕ) → IsWriting free frames.old self.old → result ≡ WriteStep.Fault →
-            Changes (FailsToMake (write_next free self.old (frame frames.old copy))) (D.content disk.old)
-            (D.content disk.new) }
-
         ensures called { Called D.Disk OneCall (result ≡ WriteStep.Fault) disk.old disk.new }
 
-        ensures image { IsSameImage self.old self.new }
-        ensures made { Succeeds result → self.new.written ≡ self.old.written + 1 }
-        ensures writing { (free : List ℕ) → IsWriting free frames.old self.old → GoesOn result →
-            IsWriting free frames.new self.new }
-        ensures cursor { IsSameCursor self.old self.new }
-
-        ensures taken { (free : List ℕ) → IsWriting free frames.old self.old →
-            frames.new ≡ with_entries frames.old self.old.table.first
-            (slots_of_write self.old.info free self.old.written) 65536 }
-        ensures len { length frames.new ≡ length frames.old }
-        ensures runs { Matches frames.new self.old.table runs.new }
-        ensures room { runs.new.room ≡ runs.old.room }
+        ensures writer { Advances IsSameCursor result frames.old frames.new self.old self.new }
+        ensures slots { TakesSlots self.old frames.old frames.new runs.old runs.new }
     {
         let of = writes(&self.info);
         let block = self.next_block(frames, runs);
@@ -352,8 +257,7 @@ impl Writer {
 
     /// The block of the least free slot, which is that of the next page of the image.
     fn next_block(&self, frames: &Frames, runs: &FreeRuns) -> u32
-        requires table { LiesIn frames.now self.now.table }
-        requires matches { Matches frames.now self.now.table runs.now }
+        requires slots { HasSlots frames.now self.now.table runs.now }
         requires writing { (free : List ℕ) × IsWriting free frames.now self.now }
         requires page { is_map_write self.now.info.pages self.now.written ≡ false }
         ensures block { (free : List ℕ) → IsWriting free frames.now self.now →
@@ -366,8 +270,7 @@ impl Writer {
     /// Takes the slot of the next page of the image, and with the last entry of the map that of the next map. The
     /// answer is the page's block.
     fn take_page(&mut self, frames: &mut Frames, runs: &mut FreeRuns) -> u32
-        requires table { LiesIn frames.old self.old.table }
-        requires matches { Matches frames.old self.old.table runs.old }
+        requires slots { HasSlots frames.old self.old.table runs.old }
         requires writing { (free : List ℕ) × IsWriting free frames.old self.old }
         requires page { is_map_write self.old.info.pages self.old.written ≡ false }
 
@@ -377,13 +280,7 @@ impl Writer {
         ensures image { IsSameImage self.old self.new }
         ensures writing { (free : List ℕ) → IsWriting free frames.old self.old → IsWriting free frames.new self.new }
         ensures cursor { IsSameCursor self.old self.new }
-
-        ensures taken { (free : List ℕ) → IsWriting free frames.old self.old →
-            frames.new ≡ with_entries frames.old self.old.table.first
-            (slots_of_write self.old.info free self.old.written) 65536 }
-        ensures len { length frames.new ≡ length frames.old }
-        ensures runs { Matches frames.new self.old.table runs.new }
-        ensures room { runs.new.room ≡ runs.old.room }
+        ensures slots { TakesSlots self.old frames.old frames.new runs.old runs.new }
     {
         let block = take_block(frames, runs, &self.table, &self.extents);
         self.written += 1;
@@ -402,18 +299,12 @@ impl Writer {
 
         ensures answer { (result ≡ WriteStep.Fault)
             ⊎ (result ≡ after (self.old.written + 1) (writes_of self.old.info)) }
-        ensures written { (free : List ℕ) (memory : List (List ℕ)) → IsWriting free memory self.old → Succeeds result →
-            Changes (Makes (map_next free self.old)) (D.content disk.old) (D.content disk.new) }
-        ensures failed { (free : List ℕ) (memory : List (List ℕ)) → IsWriting free memory self.old →
-            result ≡ WriteStep.Fault →
-            Changes (FailsToMake (map_next free self.old)) (D.content disk.old) (D.content disk.new) }
+        ensures page { (page : List ℕ) (memory : List (List ℕ)) →
+            WritesPage page result memory self.old (D.content disk.old) (D.content disk.new) }
+
         ensures called { Called D.Disk OneCall (result ≡ WriteStep.Fault) disk.old disk.new }
 
-        ensures image { IsSameImage self.old self.new }
-        ensures made { Succeeds result → self.new.written ≡ self.old.written + 1 }
-        ensures writing { (free : List ℕ) (memory : List (List ℕ)) → IsWriting free memory self.old → GoesOn result →
-            IsWriting free memory self.new }
-        ensures cursor { IsSameCursor self.old self.new }
+        ensures writer { (memory : List (List ℕ)) → Advances IsSameCursor result memory memory self.old self.new }
     {
         let writes = writes(&self.info);
         match disk.write(self.block, self.map.page()) {
@@ -428,55 +319,50 @@ impl Writer {
     }
 
     /// Whether the page of the image that is next is the info page or a number page.
-    fn is_at_head(&self, origs: &Bitmap) -> bool
+    fn is_at_head(&self, sets: &Sets) -> bool
         requires few { self.now.info.pages < 2 ^ 52 }
-        requires originals { length origs.now.members ≡ self.now.info.image_pages }
+        requires originals { length (origs_of sets.now) ≡ self.now.info.image_pages }
         ensures { IsTrue result ↔ (page_of_write self.now.written ≤ meta_of self.now.info.image_pages) }
     {
-        self.written - self.written / 512 <= origs.len().div_ceil(512)
+        self.written - self.written / 512 <= sets.origs.len().div_ceil(512)
     }
 
     /// The info page or the number page that is next.
-    fn next_head(&self, origs: &Bitmap, zeros: Option<&Bitmap>) -> Page
+    fn next_head(&self, sets: &Sets) -> Page
         requires few { self.now.info.pages < 2 ^ 52 }
-        requires originals { length origs.now.members ≡ self.now.info.image_pages }
+        requires originals { length (origs_of sets.now) ≡ self.now.info.image_pages }
         requires head { page_of_write self.now.written ≤ meta_of self.now.info.image_pages }
-        ensures { (saved : List (List ℕ)) →
-            result ≡ page_next (stream_pages self.now.info
-            (marked_numbers origs.now.members (members_in (option_copied zeros.entry))) saved) self.now }
+        ensures { (saved : List (List ℕ)) → result ≡ page_next
+            (stream_pages self.now.info (marked_numbers (origs_of sets.now) (zeros_of sets.now)) saved) self.now }
     {
-        head_page(&self.info, origs, zeros, self.written - self.written / 512)
+        head_page(
+            &self.info,
+            sets.origs,
+            sets.zeros,
+            self.written - self.written / 512,
+        )
     }
 
     /// The page frame of the copy that is next.
-    fn next_copy(
-        &mut self,
-        frames: &Frames,
-        origs: &Bitmap,
-        copies: &Bitmap,
-        zeros: Option<&Bitmap>,
-    ) -> u32
+    fn next_copy(&mut self, frames: &Frames, sets: &Sets) -> u32
         requires page { page_of_write self.old.written < self.old.info.pages }
         requires data { meta_of self.old.info.image_pages < page_of_write self.old.written }
-        requires sets { AreOfImage self.old.info origs.now.members copies.now.members
-            (members_in (option_copied zeros)) }
-        requires copies { All (λ p. p < length frames.now) copies.now.members }
-        requires reading { HasReadCopies origs.now.members copies.now.members (members_in (option_copied zeros))
-            self.old }
+        requires sets { AreOfImage self.old.info (origs_of sets.now) (copies_of sets.now) (zeros_of sets.now) }
+        requires copies { All (λ p. p < length frames.now) (copies_of sets.now) }
+        requires reading { HasReadCopies (origs_of sets.now) (copies_of sets.now) (zeros_of sets.now) self.old }
         ensures within { result < length frames.now }
-        ensures page { frame frames.now result ≡ page_next
-            (stream_of_sets self.old.info frames.now origs.now.members copies.now.members
-            (members_in (option_copied zeros.entry))) self.old }
+        ensures page { frame frames.now result ≡ page_next (stream_of_sets self.old.info frames.now
+            (origs_of sets.now) (copies_of sets.now) (zeros_of sets.now)) self.old }
         ensures same { self.new ≡ record self.old {
           orig = self.new.orig;
           copy = self.new.copy;
           passed = self.new.passed;
         } }
-        ensures reading { IsPassed origs.now.members copies.now.members (members_in (option_copied zeros.entry))
+        ensures reading { IsPassed (origs_of sets.now) (copies_of sets.now) (zeros_of sets.now)
             self.new.orig self.new.copy self.new.passed
             (page_of_write self.old.written + 1 - (meta_of self.old.info.image_pages + 1)) }
     {
-        self.cursor.next(origs, copies, zeros)
+        self.cursor.next(sets.origs, sets.copies, sets.zeros)
     }
 
     /// Whether the next write is one of a map.
@@ -499,17 +385,14 @@ fn writes(info: &Info) -> u32
 
 /// Gives the least free slot to the image, and answers its block.
 fn take_block(frames: &mut Frames, runs: &mut FreeRuns, table: &SlotTable, map: &FileMap) -> u32
-    requires table { LiesIn frames.old table.now }
-    requires matches { Matches frames.old table.now runs.old }
+    requires slots { HasSlots frames.old table.now runs.old }
     requires some { 0 < length (free_in frames.old table.now) }
     requires fits { block_of map.now (slice_index (free_in frames.old table.now) 0) < 2 ^ 32 }
     ensures block { result ≡ block_of map.now (slice_index (free_in frames.old table.now) 0) }
     ensures taken { frames.new ≡ with_entry frames.old table.now.first
         (slice_index (free_in frames.old table.now) 0) 65536 }
     ensures pages { All IsPage frames.old }
-    ensures len { length frames.new ≡ length frames.old }
-    ensures matches { Matches frames.new table.now runs.new }
-    ensures room { runs.new.room ≡ runs.old.room }
+    ensures kept { KeepsSlots table.now frames.old frames.new runs.old runs.new }
 {
     // Each page frame has 4096 bytes, so that an entry that is set leaves the others.
     let _ = frames.len();

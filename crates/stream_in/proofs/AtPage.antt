@@ -1,11 +1,12 @@
 -- A writer at a page of the stream.
-use Rattle.std.proofs.Common.{◌≡◌, ℕ, ◌+◌, ◌%◌, ◌<◌, ◌≤◌, eqb, List, length, Option, None, Result, Ok, Err, IfOk, sym, ap, ◌∙◌, subst, arith}
+use Rattle.std.proofs.Common.{ℕ, ◌+◌, ◌%◌, ◌<◌, ◌≤◌, eqb, List, length, Option, None, Result, Ok, Err, IfOk, sym, ap, ◌∙◌, subst, arith}
 use Rattle.std.proofs.lemmas.Bool.{or_from, ne_eqb}
 use Rattle.swap_slots.specs.declared.table.SlotTable.{SlotTable}
 use Rattle.swap_slots.specs.Table.{free_in}
 use Rattle.definitions.specs.InfoPage.{info_of}
 use Rattle.plain_machine.specs.Image.{maps_of}
 use Rattle.plain_machine.specs.Image.{page_of_write, laid_block}
+use Rattle.image_write.specs.Steps.{HasBegun}
 use Rattle.image_write.specs.Writing.{Writing, IsWriting, writes_of}
 use Rattle.stream_check.specs.Grammar.{all_pages}
 use Rattle.stream_in.specs.Putting.{CanBegin, IsAtPage, IsPagePut, HasPut, pages_in}
@@ -13,22 +14,13 @@ use Rattle.stream_in.specs.Holding.{writes_after}
 use Rattle.stream_in.specs.declared.stop.InStop.{InStop}
 use Rattle.stream_in.proofs.Counts.{are_few}
 
--- what a begin says
-pub record HasBegun (slots : List ℕ) (frames : List (List ℕ)) (table : SlotTable) (extents : List (ℕ × ℕ × ℕ)) (page : List ℕ) (w : Writing) : Type 0 where
-  pub writing : IsWriting slots frames w
-  pub info : w.info ≡ info_of page
-  pub table_is : w.table ≡ table
-  pub extents_are : w.extents ≡ extents
-  pub written : w.written ≡ 0
-  pub enough : all_pages page + 1026 ≤ length slots
-
-pub at_first : (free : List ℕ) (old frames : List (List ℕ)) (table : SlotTable) (extents : List (ℕ × ℕ × ℕ)) (blocks : ℕ) (page : List ℕ) (w : Writing) → CanBegin free old table extents blocks page → HasBegun (free_in old table) frames table extents page w → IsAtPage free frames table extents blocks page None w
-at_first free old frames table extents blocks page w can begun =
-    let few = are_few page w.info begun.info can.counts in
+pub at_first : (free : List ℕ) (old frames : List (List ℕ)) (table : SlotTable) (extents : List (ℕ × ℕ × ℕ)) (blocks : ℕ) (page : List ℕ) (w : Writing) → CanBegin free old table extents blocks page → HasBegun (info_of page) extents table (free_in old table) frames w → all_pages page + 1026 ≤ length (free_in old table) → IsAtPage free frames table extents blocks page None w
+at_first free old frames table extents blocks page w can begun room =
+    let few = are_few page w.info begun.info_is can.counts in
     let pages = few.pages in
     let some = few.some in
     let writes = few.writes in
-    let enough : all_pages page + 1026 ≤ length free = subst (λ (slots : List ℕ). all_pages page + 1026 ≤ length slots) can.is_free begun.enough in
+    let enough : all_pages page + 1026 ≤ length free = subst (λ (slots : List ℕ). all_pages page + 1026 ≤ length slots) can.is_free room in
     let writing : IsWriting free frames w = subst (λ (slots : List ℕ). IsWriting slots frames w) can.is_free begun.writing in
     let written = begun.written in
     record {
@@ -60,8 +52,6 @@ has_put free frames f table extents blocks page old w new at put =
 
 -- the same of the answer of a begin
 pub at_begun : (free : List ℕ) (old frames : List (List ℕ)) (table : SlotTable) (extents : List (ℕ × ℕ × ℕ)) (blocks : ℕ) (page : List ℕ) (r : Result Writing InStop) → CanBegin free old table extents blocks page →
-    IfOk r (λ w. IsWriting (free_in old table) frames w) → IfOk r (λ w. w.info ≡ info_of page) → IfOk r (λ w. w.table ≡ table) → IfOk r (λ w. w.extents ≡ extents) → IfOk r (λ w. w.written ≡ 0) →
-    IfOk r (λ w. all_pages page + 1026 ≤ length (free_in old table)) → IfOk r (λ w. IsAtPage free frames table extents blocks page None w)
-at_begun free old frames table extents blocks page (Ok w) can a b c d e f =
-    at_first free old frames table extents blocks page w can (record { writing = a; info = b; table_is = c; extents_are = d; written = e; enough = f })
-at_begun free old frames table extents blocks page (Err why) can a b c d e f = tt
+    IfOk r (λ w. HasBegun (info_of page) extents table (free_in old table) frames w) → IfOk r (λ w. all_pages page + 1026 ≤ length (free_in old table)) → IfOk r (λ w. IsAtPage free frames table extents blocks page None w)
+at_begun free old frames table extents blocks page (Ok w) can begun room = at_first free old frames table extents blocks page w can begun room
+at_begun free old frames table extents blocks page (Err why) can begun room = tt

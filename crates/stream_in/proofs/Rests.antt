@@ -1,6 +1,6 @@
 -- A disk that is at rest before an image is written to it.
-use Rattle.std.proofs.Common.{◌≡◌, ◌<◌, ◌≤◌, ◌⊎◌, ℕ, ◌+◌, ◌%◌, Bool, true, false, cond, eqb, ◌||◌, List, ◌++◌, length, Option, Some, None, is_none, is_some, not, refl, sym, ap, ◌∙◌, subst, inl, inr, ⊎_elim, arith, length-append}
-use Rattle.std.proofs.lemmas.Bool.{cases_lt, cases_Bool, eqb-true, cond-true, cond-false}
+use Rattle.std.proofs.Common.{◌≡◌, ◌<◌, ◌≤◌, ◌⊎◌, ℕ, ◌+◌, ◌%◌, Bool, true, false, eqb, List, ◌++◌, length, Option, Some, None, is_none, is_some, not, refl, sym, ap, ◌∙◌, subst, inl, inr, ⊎_elim, arith, length-append}
+use Rattle.std.proofs.lemmas.Bool.{cases_lt, cases_Bool, eqb-true, cond-false}
 use Rattle.definitions.specs.Disk.{Content, DiskImage, Changes, as_it_reads, settled}
 use Rattle.definitions.proofs.DiskLaws.{as_it_reads-settled}
 use Rattle.image_write.specs.Answers.{after}
@@ -8,7 +8,6 @@ use Rattle.image_write.specs.Writing.{Writing, writes_of}
 use Rattle.image_write.specs.declared.write_step.WriteStep.{WriteStep}
 use Rattle.image_write.specs.declared.write_step.WriteStep.TheVariants.{More, Done, Fault}
 use Rattle.swap_slots.specs.declared.table.SlotTable.{SlotTable}
-use Rattle.stream_in.specs.Moments.{ElapsesAlike, ElapsesOutside}
 use Rattle.stream_in.specs.Outside.{KeepsOutside, IsAtRest, PutsAtRest, FailsAtRest, KeepsAtRest, WritesAtRest, StopsAtRest}
 use Rattle.stream_check.specs.Grammar.{image_pages, all_pages}
 use Rattle.stream_check.proofs.Steps.{counts_from}

@@ -7,3 +7,6 @@ pub mod Outside
 pub mod Holding
 pub mod Moments
 pub mod Marked
+pub mod Calls
+pub mod Pieces
+pub mod Ending

@@ -1,7 +1,7 @@
 -- What marking an image makes of the disk: the syncs, and the writes of block 0 (mark_swapfiles, kernel/power/swap.c).
 use Rattle.std.specs.Prelude.{◌≡◌, ◌⊎◌, ◌<◌, ℕ}
 use Rattle.definitions.specs.Disk.{Content, as_it_reads, block, settled, SameOutside}
-use Rattle.definitions.specs.SwapHeader.{IsMarked, marked}
+use Rattle.definitions.specs.SwapHeader.{IsMarked}
 use Rattle.plain_machine.specs.declared.reply.Left.{Left}
 use Rattle.plain_machine.specs.declared.reply.Left.TheVariants.{Same, Gone, Unsure}
 use Rattle.stream_in.specs.declared.stop.InStop.{InStop}

@@ -1,7 +1,7 @@
 -- How far the pages of a stream are written. A page is written as it is full, with the map that it fills, and after
 -- the last page the last map.
-use Rattle.std.specs.Prelude.{◌≡◌, ◌<◌, ◌≤◌, ◌==◌, ℕ, ◌+◌, ◌/◌, ◌%◌, ◌^◌, ◌||◌, Bool, false, IsTrue, List, length}
-use Rattle.std.specs.Prelude.{Option, Some, None, ⊤, if◌then◌else◌}
+use Rattle.std.specs.Prelude.{◌≡◌, ◌<◌, ◌≤◌, ◌==◌, ℕ, ◌+◌, ◌%◌, ◌^◌, ◌||◌, Bool, false, IsTrue, List, length}
+use Rattle.std.specs.Prelude.{Option, Some, None, ⊤}
 use Rattle.swap_slots.specs.Table.{free_in}
 use Rattle.swap_slots.specs.declared.table.SlotTable.{SlotTable}
 use Rattle.plain_machine.specs.Image.{page_of_write, is_map_write, laid_block}

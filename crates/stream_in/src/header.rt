@@ -1,12 +1,13 @@
-ghost use Rattle.std.specs.Prelude.{◌≡◌, ◌⊎◌, ℕ, ◌+◌, ◌<◌, ◌≤◌, Some, None, Err, IsTrue, OnOk, IfOk, IfErr, IfSome};
-ghost use Rattle.definitions.specs.Disk.{Content, DiskImage, as_it_reads, block, Changes, HasRisen, SameOutside, Syncs};
+ghost use Rattle.std.specs.Prelude.{◌≡◌, ◌⊎◌, ℕ, ◌<◌, None, IsTrue, IsErr, IsErrAnd, OnOk, IfOk, IfErr, IfSome};
+ghost use Rattle.definitions.specs.Disk.{Content, DiskImage, as_it_reads, block, Changes, SameOutside, Syncs};
 ghost use Rattle.definitions.specs.SwapHeader.{taken_back};
 ghost use Rattle.sig_header.specs.AreaKind.{area_kind};
 ghost use Rattle.plain_machine.specs.UsableArea.{kind_fault};
 ghost use Rattle.stream_in.specs.Area.{first_block};
 ghost use Rattle.stream_in.specs.Moments.{AddsNoImage, TriesMark, ElapsesAlike, LiesOver, ElapsesTrying};
 ghost use Rattle.stream_in.specs.Moments.{ElapsesOverMark};
-ghost use Rattle.stream_in.specs.Marking.{LeavesAt};
+ghost use Rattle.stream_in.specs.Calls.{HasCalled, AtMost};
+ghost use Rattle.stream_in.specs.Ending.{StopsMark};
 ghost use Rattle.stream_in.specs.Marked.{HasHeader, Marks, FailsToMark};
 ghost use Rattle.stream_in.specs.declared.stop.InStop.TheVariants as stop;
 ghost use Rattle.plain_machine.specs.declared.reply.Left.TheVariants as left;
@@ -25,12 +26,7 @@ pub(crate) fn read_header<D: Disk>(disk: &mut D) -> Result<Page, InStop>
         (λ held. page ≡ first_block (D.block_count disk.old) (as_it_reads held))) }
     ensures refused { IfErr result (λ why. why ≡ stop.ReadFault left.Same) }
     ensures content { D.content disk.new ≡ D.content disk.old }
-    ensures cause { IfErr result (λ why. HasRisen (D.faults disk.old) (D.faults disk.new)) }
-    ensures calls { D.calls disk.new ≤ D.calls disk.old + 1 }
-    ensures faults { D.faults disk.old ≤ D.faults disk.new }
-    ensures orders { D.orders disk.new ≡ D.orders disk.old }
-    ensures blocks { D.block_count disk.new ≡ D.block_count disk.old }
-    ensures telling { D.tells_moments disk.new ≡ D.tells_moments disk.old }
+    ensures called { HasCalled D.Disk (AtMost 1) (IsErr result) disk.old disk.new }
     ensures time { IsTrue (D.tells_moments disk.old) →
         ElapsesAlike (D.moment disk.old) (D.moment disk.new) (D.left_since disk.old) (D.left_since disk.new) }
 {
@@ -48,16 +44,8 @@ pub(crate) fn read_header<D: Disk>(disk: &mut D) -> Result<Page, InStop>
 pub(crate) fn mark_image<D: Disk>(disk: &mut D, first: u32) -> Result<(), InStop>
     requires { 0 < D.block_count disk.old }
     ensures marked { OnOk result (Changes (Marks first) (D.content disk.old) (D.content disk.new)) }
-    ensures leaves { IfErr result (λ why. Changes (LeavesAt why) (D.content disk.old) (D.content disk.new)) }
-    ensures stops { IfErr result (λ why. IsOfHeader why) }
-    ensures no_swap { IfErr result (λ why. IfNoSwap why (λ reason. IfSome (D.content disk.old)
-        (λ held. kind_fault (area_kind (block (as_it_reads held) 0)) ≡ Some reason))) }
-    ensures cause { IfErr result (λ why. IsDiskStop why → HasRisen (D.faults disk.old) (D.faults disk.new)) }
-    ensures calls { D.calls disk.new ≤ D.calls disk.old + 6 }
-    ensures faults { D.faults disk.old ≤ D.faults disk.new }
-    ensures orders { D.orders disk.new ≡ D.orders disk.old }
-    ensures blocks { D.block_count disk.new ≡ D.block_count disk.old }
-    ensures telling { D.tells_moments disk.new ≡ D.tells_moments disk.old }
+    ensures stopped { StopsMark IsOfHeader result (D.content disk.old) (D.content disk.new) }
+    ensures called { HasCalled D.Disk (AtMost 6) (IsErrAnd result IsDiskStop) disk.old disk.new }
     ensures tried { IfSome (D.content disk.old) (λ held. IfSome (D.content disk.new) (TriesMark first held)) }
     ensures time { IsTrue (D.tells_moments disk.old) → IfSome (D.content disk.old) (λ held.
         ElapsesOverMark first (D.moment disk.old) (D.moment disk.new) (D.left_since disk.old) (D.left_since disk.new)
@@ -74,16 +62,8 @@ fn header_to_mark<D: Disk>(disk: &mut D) -> Result<Page, InStop>
     ensures area { IfOk result (λ page. kind_fault (area_kind page) ≡ None) }
     ensures header { IfOk result (λ page. IfSome (D.content disk.old) (λ held. page ≡ block (as_it_reads held) 0)) }
     ensures synced { OnOk result (Changes Syncs (D.content disk.old) (D.content disk.new)) }
-    ensures leaves { IfErr result (λ why. Changes (LeavesAt why) (D.content disk.old) (D.content disk.new)) }
-    ensures stops { IfErr result (λ why. IsOfHeader why) }
-    ensures no_swap { IfErr result (λ why. IfNoSwap why (λ reason. IfSome (D.content disk.old)
-        (λ held. kind_fault (area_kind (block (as_it_reads held) 0)) ≡ Some reason))) }
-    ensures cause { IfErr result (λ why. IsDiskStop why → HasRisen (D.faults disk.old) (D.faults disk.new)) }
-    ensures calls { D.calls disk.new ≤ D.calls disk.old + 2 }
-    ensures faults { D.faults disk.old ≤ D.faults disk.new }
-    ensures orders { D.orders disk.new ≡ D.orders disk.old }
-    ensures blocks { D.block_count disk.new ≡ D.block_count disk.old }
-    ensures telling { D.tells_moments disk.new ≡ D.tells_moments disk.old }
+    ensures stopped { StopsMark IsOfHeader result (D.content disk.old) (D.content disk.new) }
+    ensures called { HasCalled D.Disk (AtMost 2) (IsErrAnd result IsDiskStop) disk.old disk.new }
     ensures images { Changes AddsNoImage (D.content disk.old) (D.content disk.new) }
     ensures time { IsTrue (D.tells_moments disk.old) →
         ElapsesAlike (D.moment disk.old) (D.moment disk.new) (D.left_since disk.old) (D.left_since disk.new) }
@@ -107,12 +87,7 @@ fn write_mark<D: Disk>(disk: &mut D, marked: &Page) -> Result<(), InStop>
         (D.content disk.new)) }
     ensures stops { IfErr result (λ why. IsOfHeader why) }
     ensures no_swap { IfErr result (λ why. IfNoSwap why (λ reason. ⊥)) }
-    ensures cause { IfErr result (λ why. IsDiskStop why → HasRisen (D.faults disk.old) (D.faults disk.new)) }
-    ensures calls { D.calls disk.new ≤ D.calls disk.old + 4 }
-    ensures faults { D.faults disk.old ≤ D.faults disk.new }
-    ensures orders { D.orders disk.new ≡ D.orders disk.old }
-    ensures blocks { D.block_count disk.new ≡ D.block_count disk.old }
-    ensures telling { D.tells_moments disk.new ≡ D.tells_moments disk.old }
+    ensures called { HasCalled D.Disk (AtMost 4) (IsErrAnd result IsDiskStop) disk.old disk.new }
     ensures lies { (u : DiskImage) → IfSome (D.content disk.old) (LiesOver marked.now u) →
         IfSome (D.content disk.new) (LiesOver marked.now u) }
     ensures time { IsTrue (D.tells_moments disk.old) → (u : DiskImage) →
@@ -138,11 +113,7 @@ fn undo<D: Disk>(disk: &mut D, marked: &Page) -> Left
     ensures gone { result ≡ left.Gone →
         Changes (HasHeader (taken_back marked.now)) (D.content disk.old) (D.content disk.new) }
     ensures unsure { result ≡ left.Unsure → Changes (SameOutside 0) (D.content disk.old) (D.content disk.new) }
-    ensures calls { D.calls disk.new ≤ D.calls disk.old + 2 }
-    ensures faults { D.faults disk.old ≤ D.faults disk.new }
-    ensures orders { D.orders disk.new ≡ D.orders disk.old }
-    ensures blocks { D.block_count disk.new ≡ D.block_count disk.old }
-    ensures telling { D.tells_moments disk.new ≡ D.tells_moments disk.old }
+    ensures called { HasCalled D.Disk (AtMost 2) (result ≡ left.Unsure) disk.old disk.new }
     ensures lies { (u : DiskImage) → IfSome (D.content disk.old) (LiesOver marked.now u) →
         IfSome (D.content disk.new) (LiesOver marked.now u) }
     ensures time { IsTrue (D.tells_moments disk.old) → (u : DiskImage) →

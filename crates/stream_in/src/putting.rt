@@ -1,11 +1,13 @@
-ghost use Rattle.std.specs.Prelude.{◌≡◌, ◌⊎◌, ℕ, ◌+◌, ◌<◌, ◌≤◌, ◌^◌, List, Err, IfOk, IfErr, OnOk, OnErr, IsTrue};
+ghost use Rattle.std.specs.Prelude.{◌≡◌, ◌⊎◌, ℕ, ◌+◌, ◌<◌, ◌≤◌, ◌^◌, List, Err, IsErr, IsErrAnd, IfOk, IfErr, OnOk};
+ghost use Rattle.std.specs.Prelude.{OnErr, IsTrue};
 ghost use Rattle.std.specs.Prelude.{false, length};
-ghost use Rattle.definitions.specs.Disk.{HasRisen, Changes};
+ghost use Rattle.definitions.specs.Disk.{Changes};
 ghost use Rattle.stream_in.specs.Outside.{FailsAtRest, IsAtRest, KeepsOutside, PutsAtRest};
 ghost use Rattle.stream_in.specs.Moments.{ElapsesAlike, ElapsesOutside};
 ghost use Rattle.plain_machine.specs.declared.reply.Left.TheVariants as left;
 ghost use Rattle.plain_machine.specs.Image.{is_map_write, page_of_write};
-ghost use Rattle.swap_slots.specs.Table.{LiesIn, Matches};
+ghost use Rattle.stream_in.specs.Calls.{HasCalled, AtMost};
+ghost use Rattle.image_write.specs.Steps.{HasSlots, KeepsSlots, HasBegun};
 ghost use Rattle.image_write.specs.Answers.{Succeeds};
 ghost use Rattle.image_write.specs.Writing.{IsReady, IsWriting, BlocksBelow, writes_of};
 ghost use Rattle.stream_in.specs.Holding.{AreOfMap, MakesMore};
@@ -18,13 +20,14 @@ ghost use Rattle.stream_in.specs.Stops.{IsOfPage, IsDiskStop};
 ghost use Rattle.stream_in.specs.declared.stop.InStop.TheVariants as stop;
 
 use crate::InStop;
+use crate::slots::SwapSlots;
 use frame_arena::Frames;
 use image_header::decode;
 use image_write::{WriteStep, Writer};
 use page_core::{Failed, Page};
 use plain_machine::Left;
 use sector_disk::Disk;
-use swap_slots::{FileMap, FreeRuns, SlotTable};
+use swap_slots::FreeRuns;
 
 /// So many slots more than the image has pages must be free.
 const SPARE_SLOTS: u32 = 1026;
@@ -35,53 +38,49 @@ pub(crate) fn put_full<D: Disk>(
     writer: Option<Writer>,
     frames: &mut Frames,
     runs: &mut FreeRuns,
-    table: &SlotTable,
-    map: &FileMap,
+    slots: &SwapSlots,
     disk: &mut D,
     page: &Page,
 ) -> Result<Writer, InStop>
-    requires table { LiesIn frames.old table.now }
-    requires matches { Matches frames.old table.now runs.old }
-    requires put { (free : List ℕ) × CanPut free frames.old table.now map.now (D.block_count disk.old) page.now writer }
+    requires slots { HasSlots frames.old slots.now.table.now runs.old }
+    requires put { (free : List ℕ)
+        × CanPut free frames.old slots.now.table.now slots.now.map.now (D.block_count disk.old) page.now writer }
 
-    ensures put { (free : List ℕ) → CanPut free frames.old table.now map.now (D.block_count disk.old) page.now writer →
-        IfOk result (λ next. HasPut free frames.new table.now map.now page.now writer next) }
+    ensures put { (free : List ℕ) →
+        CanPut free frames.old slots.now.table.now slots.now.map.now (D.block_count disk.old) page.now writer →
+        IfOk result (λ next. HasPut free frames.new slots.now.table.now slots.now.map.now page.now writer next) }
     ensures enough { (free : List ℕ) →
-        CanPut free frames.old table.now map.now (D.block_count disk.old) page.now writer →
+        CanPut free frames.old slots.now.table.now slots.now.map.now (D.block_count disk.old) page.now writer →
         IfOk result (λ next. Suffice free page.now writer) }
     ensures too_few { (free : List ℕ) →
-        CanPut free frames.old table.now map.now (D.block_count disk.old) page.now writer →
+        CanPut free frames.old slots.now.table.now slots.now.map.now (D.block_count disk.old) page.now writer →
         (told need : ℕ) → result ≡ Err (stop.NoSlots told need) → HasTooFew free page.now writer told need }
     ensures stops { IfErr result (λ why. IsOfPage why) }
     ensures done { (free : List ℕ) (pages : ℕ → List ℕ) →
-        CanPut free frames.old table.now map.now (D.block_count disk.old) page.now writer
-        → AreOfMap map.now free → page.now ≡ pages (pages_written writer)
-        → IfOk result (λ next. Changes (MakesMore map.now free (pages_in page.now writer) pages (writes_made writer)
+        CanPut free frames.old slots.now.table.now slots.now.map.now (D.block_count disk.old) page.now writer
+        → AreOfMap slots.now.map.now free → page.now ≡ pages (pages_written writer)
+        → IfOk result (λ next. Changes (MakesMore slots.now.map.now free (pages_in page.now writer) pages
+        (writes_made writer)
         next.written) (D.content disk.old) (D.content disk.new)) }
     ensures outside { (free : List ℕ) →
-        CanPut free frames.old table.now map.now (D.block_count disk.old) page.now writer →
-        IfOk result (λ next. Changes (PutsAtRest map.now free writer) (D.content disk.old) (D.content disk.new)) }
+        CanPut free frames.old slots.now.table.now slots.now.map.now (D.block_count disk.old) page.now writer →
+        IfOk result (λ next. Changes (PutsAtRest slots.now.map.now free writer) (D.content disk.old)
+        (D.content disk.new)) }
     ensures stopped { (free : List ℕ) →
-        CanPut free frames.old table.now map.now (D.block_count disk.old) page.now writer →
-        IfErr result (λ why. Changes (FailsAtRest map.now free writer) (D.content disk.old) (D.content disk.new)) }
+        CanPut free frames.old slots.now.table.now slots.now.map.now (D.block_count disk.old) page.now writer →
+        IfErr result (λ why. Changes (FailsAtRest slots.now.map.now free writer) (D.content disk.old)
+        (D.content disk.new)) }
     ensures time { IsTrue (D.tells_moments disk.old) → (free : List ℕ) →
-        CanPut free frames.old table.now map.now (D.block_count disk.old) page.now writer →
-        ElapsesOutside map.now free (D.moment disk.old) (D.moment disk.new) (D.left_since disk.old)
+        CanPut free frames.old slots.now.table.now slots.now.map.now (D.block_count disk.old) page.now writer →
+        ElapsesOutside slots.now.map.now free (D.moment disk.old) (D.moment disk.new) (D.left_since disk.old)
         (D.left_since disk.new) }
 
-    ensures cause { IfErr result (λ why. IsDiskStop why → HasRisen (D.faults disk.old) (D.faults disk.new)) }
-    ensures faults { D.faults disk.old ≤ D.faults disk.new }
-    ensures calls { D.calls disk.new ≤ D.calls disk.old + 3 }
-    ensures orders { D.orders disk.new ≡ D.orders disk.old }
-    ensures blocks { D.block_count disk.new ≡ D.block_count disk.old }
-    ensures telling { D.tells_moments disk.new ≡ D.tells_moments disk.old }
+    ensures called { HasCalled D.Disk (AtMost 3) (IsErrAnd result IsDiskStop) disk.old disk.new }
 
-    ensures len { length frames.new ≡ length frames.old }
-    ensures runs { Matches frames.new table.now runs.new }
-    ensures room { runs.new.room ≡ runs.old.room }
+    ensures kept { KeepsSlots slots.now.table.now frames.old frames.new runs.old runs.new }
 {
     let begins = writer.is_none();
-    let mut writer = at_page(writer, frames, runs, table, map, page)?;
+    let mut writer = at_page(writer, frames, runs, slots, page)?;
     at_rest(disk, begins)?;
     match put_page(&mut writer, frames, runs, disk, page) {
         WriteStep::More { .. } => Ok(writer),
@@ -95,13 +94,8 @@ fn at_rest<D: Disk>(disk: &mut D, begins: bool) -> Result<(), InStop>
     ensures rested { OnOk result (Changes (IsAtRest begins) (D.content disk.old) (D.content disk.new)) }
     ensures failed { IfErr result (λ why. why ≡ stop.SyncFault left.Same) }
     ensures same { OnErr result (D.content disk.new ≡ D.content disk.old) }
-    ensures cause { OnErr result (HasRisen (D.faults disk.old) (D.faults disk.new)) }
-    ensures faults { D.faults disk.old ≤ D.faults disk.new }
-    ensures calls { D.calls disk.new ≤ D.calls disk.old + 1 }
+    ensures called { HasCalled D.Disk (AtMost 1) (IsErr result) disk.old disk.new }
     ensures uncalled { begins ≡ false → disk.new ≡ disk.old }
-    ensures orders { D.orders disk.new ≡ D.orders disk.old }
-    ensures blocks { D.block_count disk.new ≡ D.block_count disk.old }
-    ensures telling { D.tells_moments disk.new ≡ D.tells_moments disk.old }
     ensures time { IsTrue (D.tells_moments disk.old) →
         ElapsesAlike (D.moment disk.old) (D.moment disk.new) (D.left_since disk.old) (D.left_since disk.new) }
 {
@@ -119,29 +113,29 @@ fn at_page(
     writer: Option<Writer>,
     frames: &mut Frames,
     runs: &mut FreeRuns,
-    table: &SlotTable,
-    map: &FileMap,
+    slots: &SwapSlots,
     page: &Page,
 ) -> Result<Writer, InStop>
-    requires table { LiesIn frames.old table.now }
-    requires matches { Matches frames.old table.now runs.old }
-    requires put { (free : List ℕ) × (blocks : ℕ) × CanPut free frames.old table.now map.now blocks page.now writer }
+    requires slots { HasSlots frames.old slots.now.table.now runs.old }
+    requires put { (free : List ℕ) × (blocks : ℕ)
+        × CanPut free frames.old slots.now.table.now slots.now.map.now blocks page.now writer }
 
-    ensures ready { (free : List ℕ) (blocks : ℕ) → CanPut free frames.old table.now map.now blocks page.now writer →
-        IfOk result (λ next. IsAtPage free frames.new table.now map.now blocks page.now writer next) }
-    ensures too_few { (free : List ℕ) (blocks : ℕ) → CanPut free frames.old table.now map.now blocks page.now writer →
+    ensures ready { (free : List ℕ) (blocks : ℕ) →
+        CanPut free frames.old slots.now.table.now slots.now.map.now blocks page.now writer →
+        IfOk result (λ next. IsAtPage free frames.new slots.now.table.now slots.now.map.now blocks page.now writer
+        next) }
+    ensures too_few { (free : List ℕ) (blocks : ℕ) →
+        CanPut free frames.old slots.now.table.now slots.now.map.now blocks page.now writer →
         (told need : ℕ) → result ≡ Err (stop.NoSlots told need) → HasTooFew free page.now writer told need }
-    ensures table { IfOk result (λ next. next.table ≡ table.now) }
+    ensures table { IfOk result (λ next. next.table ≡ slots.now.table.now) }
     ensures stops { IfErr result (λ why. IsOfPage why) }
     ensures no_fault { IfErr result (λ why. IsDiskStop why → ⊥) }
 
-    ensures len { length frames.new ≡ length frames.old }
-    ensures runs { Matches frames.new table.now runs.new }
-    ensures room { runs.new.room ≡ runs.old.room }
+    ensures kept { KeepsSlots slots.now.table.now frames.old frames.new runs.old runs.new }
 {
     match writer {
         Some(writer) => Ok(writer),
-        None => begin(frames, runs, table, map, page),
+        None => begin(frames, runs, slots, page),
     }
 }
 
@@ -149,37 +143,33 @@ fn at_page(
 fn begin(
     frames: &mut Frames,
     runs: &mut FreeRuns,
-    table: &SlotTable,
-    map: &FileMap,
+    slots: &SwapSlots,
     page: &Page,
 ) -> Result<Writer, InStop>
-    requires table { LiesIn frames.old table.now }
-    requires matches { Matches frames.old table.now runs.old }
+    requires slots { HasSlots frames.old slots.now.table.now runs.old }
     requires counts { HasCounts page.now }
-    requires named { BlocksBelow map.now (free_in frames.old table.now) (length (free_in frames.old table.now))
+    requires named { BlocksBelow slots.now.map.now (free_in frames.old slots.now.table.now)
+        (length (free_in frames.old slots.now.table.now))
         (2 ^ 32) }
 
-    ensures writing { IfOk result (λ writer. IsWriting (free_in frames.old table.now) frames.new writer) }
-    ensures info { IfOk result (λ writer. writer.info ≡ info_of page.now) }
-    ensures table { IfOk result (λ writer. writer.table ≡ table.now) }
-    ensures extents { IfOk result (λ writer. writer.extents ≡ map.now) }
-    ensures written { IfOk result (λ writer. writer.written ≡ 0) }
-    ensures enough { IfOk result (λ writer. all_pages page.now + 1026 ≤ length (free_in frames.old table.now)) }
-    ensures too_few { IfErr result (λ why. why ≡ stop.NoSlots (length (free_in frames.old table.now))
+    ensures begun { IfOk result (λ writer.
+        HasBegun (info_of page.now) slots.now.map.now slots.now.table.now (free_in frames.old slots.now.table.now)
+        frames.new writer) }
+    ensures enough { IfOk result (λ writer. all_pages page.now + 1026 ≤ length
+        (free_in frames.old slots.now.table.now)) }
+    ensures too_few { IfErr result (λ why. why ≡ stop.NoSlots (length (free_in frames.old slots.now.table.now))
         (all_pages page.now + 1026)) }
-    ensures fewer { IfErr result (λ why. length (free_in frames.old table.now) < all_pages page.now + 1026) }
+    ensures fewer { IfErr result (λ why. length (free_in frames.old slots.now.table.now) < all_pages page.now + 1026) }
 
-    ensures len { length frames.new ≡ length frames.old }
-    ensures runs { Matches frames.new table.now runs.new }
-    ensures room { runs.new.room ≡ runs.old.room }
+    ensures kept { KeepsSlots slots.now.table.now frames.old frames.new runs.old runs.new }
 {
     let info = decode(page);
     let need = info.pages as u32 + SPARE_SLOTS;
-    let free = table.free_count(frames, runs);
+    let free = slots.table.free_count(frames, runs);
     if free < need {
         return Err(InStop::NoSlots { free, need });
     }
-    Ok(Writer::begin(frames, runs, table, map, &info))
+    Ok(Writer::begin(frames, runs, slots.table, slots.map, &info))
 }
 
 /// Writes the next page of the stream, the map that it fills, and the last map after the last page.
@@ -190,8 +180,7 @@ fn put_page<D: Disk>(
     disk: &mut D,
     page: &Page,
 ) -> WriteStep
-    requires table { LiesIn frames.old writer.old.table }
-    requires matches { Matches frames.old writer.old.table runs.old }
+    requires slots { HasSlots frames.old writer.old.table runs.old }
     requires writing { IsReady (D.block_count disk.old) frames.old writer.old }
     requires page { is_map_write writer.old.info.pages writer.old.written ≡ false }
 
@@ -209,17 +198,10 @@ fn put_page<D: Disk>(
         ElapsesOutside writer.old.extents free (D.moment disk.old) (D.moment disk.new) (D.left_since disk.old)
         (D.left_since disk.new) }
 
-    ensures cause { result ≡ WriteStep.Fault → HasRisen (D.faults disk.old) (D.faults disk.new) }
-    ensures faults { D.faults disk.old ≤ D.faults disk.new }
-    ensures calls { D.calls disk.new ≤ D.calls disk.old + 3 }
+    ensures called { HasCalled D.Disk (AtMost 3) (result ≡ WriteStep.Fault) disk.old disk.new }
     ensures first_call { writer.old.written ≡ 0 → 3 ≤ writer.old.info.pages → D.calls disk.new ≤ D.calls disk.old + 1 }
-    ensures orders { D.orders disk.new ≡ D.orders disk.old }
-    ensures blocks { D.block_count disk.new ≡ D.block_count disk.old }
-    ensures telling { D.tells_moments disk.new ≡ D.tells_moments disk.old }
 
-    ensures len { length frames.new ≡ length frames.old }
-    ensures runs { Matches frames.new writer.old.table runs.new }
-    ensures room { runs.new.room ≡ runs.old.room }
+    ensures kept { KeepsSlots writer.old.table frames.old frames.new runs.old runs.new }
 {
     let _ = page.as_bytes();
     let step = writer.put(frames, runs, disk, page);

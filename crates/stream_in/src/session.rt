@@ -1,28 +1,22 @@
-ghost use Rattle.std.specs.Prelude.{◌≡◌, ◌↔◌, ◌≤◌, ◌<◌, ℕ, ◌+◌, ◌-◌, ◌*◌, ◌/◌, ◌%◌, ◌++◌, ◌∷◌, List, [], Option, Some};
-ghost use Rattle.std.specs.Prelude.{None, Err, IsSome, IsTrue, IfOk, IfErr, IfSome, OnOk, OnErr, length, replicate};
-ghost use Rattle.definitions.specs.Disk.{HasRisen, Changes, as_it_reads, block};
+ghost use Rattle.std.specs.Prelude.{◌≡◌, ◌≤◌, ◌<◌, ℕ, ◌+◌, ◌-◌, ◌*◌, ◌/◌, ◌%◌, ◌++◌, ◌∷◌, List, [], Some};
+ghost use Rattle.std.specs.Prelude.{None, Err, IsSome, IsTrue, IsErrAnd, IfOk, IfErr, IfSome, length, replicate};
+ghost use Rattle.definitions.specs.Disk.{as_it_reads};
 ghost use Rattle.sig_header.specs.AreaKind.{area_kind};
-ghost use Rattle.plain_machine.specs.UsableArea.{kind_fault};
-ghost use Rattle.plain_machine.specs.Image.{laid_block};
 ghost use Rattle.definitions.specs.Bytes.{zero_page};
 ghost use Rattle.stream_in.specs.Area.{first_block, open_fault, HasBounds};
 ghost use Rattle.sig_header.specs.declared.area.Area.{Area as AreaValue};
 ghost use Rattle.sig_header.specs.declared.area.AreaKind.TheVariants as kind;
 ghost use Rattle.definitions.specs.FileMaps.{IsFileMap};
-ghost use Rattle.stream_in.specs.Outside.{StopsAtRest, WritesAtRest};
-ghost use Rattle.stream_in.specs.Moments.{AddsNoHeader, ElapsesAlike, ElapsesOutside, ElapsesOverMark, MarksWhole};
-ghost use Rattle.stream_in.specs.Moments.{LeavesWhole};
-ghost use Rattle.stream_in.specs.Holding.{AreOfMap, WritesOn};
-ghost use Rattle.stream_in.specs.Marking.{LeavesAt};
-ghost use Rattle.stream_in.specs.Marked.{Marks};
-ghost use Rattle.stream_in.specs.Holding.{IsReadyFor, StaysReady, ComesIn};
+ghost use Rattle.stream_in.specs.Calls.{HasCalled, AtMost};
+ghost use Rattle.stream_in.specs.Moments.{ElapsesAlike, ElapsesOutside};
+ghost use Rattle.stream_in.specs.Holding.{IsReadyFor};
 ghost use Rattle.image_write.specs.Writing.{Writing};
 
 use crate::InStop;
 use crate::area::{MOST_SLOTS, usable};
 use crate::header::{mark_image, read_header};
 use crate::putting::put_full;
-use crate::slots::set_bad;
+use crate::slots::{SwapSlots, set_bad};
 use frame_arena::Frames;
 use image_write::Writer;
 use page_core::Page;
@@ -57,11 +51,12 @@ pub struct StreamIn {
 }
 
 impl StreamIn {
-    ghost use Rattle.stream_check.specs.Grammar.{first_fault, short_fault, image_pages};
     ghost use Rattle.stream_check.specs.declared.fault.StreamFault.{StreamFault};
     ghost use Rattle.stream_in.specs.Stops.{IsDiskStop, IsOfOpen, IsOfFeed, IsOfFinish, IfNoSwap};
-    ghost use Rattle.stream_in.specs.Area.{HasTooFewFor, SufficeFor};
     ghost use Rattle.stream_in.specs.Session.{IsOpened, IsFed, IsGoing, IsSession, TakesInto};
+    ghost use Rattle.stream_in.specs.Pieces.{AnswersPiece, WritesPiece, FillsArea, LeavesMoments, StaysOn};
+    ghost use Rattle.stream_in.specs.Pieces.{AtMostByPages};
+    ghost use Rattle.stream_in.specs.Ending.{EndsStream, MarksStream, StopsMark, LeavesMark};
     ghost use Rattle.stream_in.specs.declared.stop.InStop.{InStop};
     ghost use Rattle.stream_in.specs.declared.stop.InStop.TheVariants as stop;
 
@@ -85,12 +80,7 @@ impl StreamIn {
         ensures count { IfOk result (λ s. s.blocks ≡ D.block_count disk.old) }
 
         ensures content { D.content disk.new ≡ D.content disk.old }
-        ensures cause { IfErr result (λ why. IsDiskStop why → HasRisen (D.faults disk.old) (D.faults disk.new)) }
-        ensures faults { D.faults disk.old ≤ D.faults disk.new }
-        ensures calls { D.calls disk.new ≤ D.calls disk.old + 1 }
-        ensures orders { D.orders disk.new ≡ D.orders disk.old }
-        ensures blocks { D.block_count disk.new ≡ D.block_count disk.old }
-        ensures telling { D.tells_moments disk.new ≡ D.tells_moments disk.old }
+        ensures called { HasCalled D.Disk (AtMost 1) (IsErrAnd result IsDiskStop) disk.old disk.new }
         ensures time { IsTrue (D.tells_moments disk.old) →
             ElapsesAlike (D.moment disk.old) (D.moment disk.new) (D.left_since disk.old) (D.left_since disk.new) }
     {
@@ -146,46 +136,19 @@ impl StreamIn {
         ensures again { (why : InStop) → self.old.stop ≡ Some why → (result ≡ Err why) × (self.new ≡ self.old)
             × (disk.new ≡ disk.old) }
 
-        ensures taken { (free bs : List ℕ) → IsFed free bs self.old →
-            OnOk result (IsFed free (bs ++ piece.now) self.new) }
-        ensures stream { (free bs : List ℕ) → IsFed free bs self.old → (fault : StreamFault) →
-            result ≡ Err (stop.Stream fault) → first_fault (bs ++ piece.now) ≡ Some fault }
-        ensures suffice { (free bs : List ℕ) → IsFed free bs self.old → (fault : StreamFault) →
-            result ≡ Err (stop.Stream fault) → SufficeFor free (bs ++ piece.now) }
-        ensures too_few { (free bs : List ℕ) → IsFed free bs self.old → (told need : ℕ) →
-            result ≡ Err (stop.NoSlots told need) → HasTooFewFor free (bs ++ piece.now) told need }
+        ensures answer { AnswersPiece piece.now result self.old self.new }
         ensures stops { IsGoing self.old → IfErr result (λ why. IsOfFeed why) }
-        ensures done { (free bs : List ℕ) → IsFed free bs self.old → AreOfMap self.old.map free →
-            OnOk result (Changes (WritesOn self.old.map free bs piece.now) (D.content disk.old) (D.content disk.new)) }
-        ensures into { (area : AreaValue) (free bs : List ℕ) → TakesInto area free bs self.old →
-            OnOk result (TakesInto area free (bs ++ piece.now) self.new) }
-        ensures ready { (area : AreaValue) (free bs : List ℕ) → TakesInto area free bs self.old →
-            OnOk result (Changes (StaysReady area free bs piece.now) (D.content disk.old) (D.content disk.new)) }
-        ensures outside { (free bs : List ℕ) → IsFed free bs self.old →
-            OnOk result (Changes (WritesAtRest self.old.map free (length bs) (length (bs
-            ++ piece.now))) (D.content disk.old) (D.content disk.new)) }
-        ensures stopped { (free bs : List ℕ) → IsFed free bs self.old →
-            OnErr result (Changes (StopsAtRest self.old.map free (length bs)) (D.content disk.old)
-            (D.content disk.new)) }
-        ensures time { IsTrue (D.tells_moments disk.old) → (free bs : List ℕ) → IsFed free bs self.old →
-            ElapsesOutside self.old.map free (D.moment disk.old) (D.moment disk.new) (D.left_since disk.old)
+        ensures writes { WritesPiece piece.now result self.old (D.content disk.old) (D.content disk.new) }
+        ensures fills { FillsArea piece.now result self.old self.new (D.content disk.old) (D.content disk.new) }
+        ensures moments { IsTrue (D.tells_moments disk.old) →
+            LeavesMoments self.old (D.moment disk.old) (D.moment disk.new) (D.left_since disk.old)
             (D.left_since disk.new) }
-        ensures header { IsTrue (D.tells_moments disk.old) → (area : AreaValue) (free bs : List ℕ) →
-            TakesInto area free bs self.old →
-            AddsNoHeader (D.moment disk.old) (D.left_since disk.old) (D.left_since disk.new) }
         ensures kept { IfErr result (λ why. self.new.stop ≡ Some why) }
         ensures session { IsSession self.new }
-        ensures same { self.new.blocks ≡ self.old.blocks }
-        ensures map { self.new.map ≡ self.old.map }
+        ensures same { StaysOn self.old self.new }
 
-        ensures cause { IsGoing self.old →
-            IfErr result (λ why. IsDiskStop why → HasRisen (D.faults disk.old) (D.faults disk.new)) }
-        ensures faults { D.faults disk.old ≤ D.faults disk.new }
-        ensures calls { (free bs : List ℕ) → IsFed free bs self.old →
-            D.calls disk.new ≤ D.calls disk.old + 3 * (length (bs ++ piece.now) / 4096 - length bs / 4096) }
-        ensures orders { D.orders disk.new ≡ D.orders disk.old }
-        ensures blocks { D.block_count disk.new ≡ D.block_count disk.old }
-        ensures telling { D.tells_moments disk.new ≡ D.tells_moments disk.old }
+        ensures called { HasCalled D.Disk (AtMostByPages self.old piece.now)
+            (IsGoing self.old × IsErrAnd result IsDiskStop) disk.old disk.new }
     {
         if let Some(stop) = self.stop {
             return Err(stop);
@@ -212,35 +175,16 @@ impl StreamIn {
         requires some { 0 < length part.now }
         requires blocks { D.block_count disk.old ≡ self.old.blocks }
 
-        ensures taken { (free bs : List ℕ) → IsFed free bs self.old →
-            OnOk result (IsFed free (bs ++ part.now) self.new) }
-        ensures stream { (free bs : List ℕ) → IsFed free bs self.old → (fault : StreamFault) →
-            result ≡ Err (stop.Stream fault) → first_fault (bs ++ part.now) ≡ Some fault }
-        ensures suffice { (free bs : List ℕ) → IsFed free bs self.old → (fault : StreamFault) →
-            result ≡ Err (stop.Stream fault) → SufficeFor free (bs ++ part.now) }
-        ensures too_few { (free bs : List ℕ) → IsFed free bs self.old → (told need : ℕ) →
-            result ≡ Err (stop.NoSlots told need) → HasTooFewFor free (bs ++ part.now) told need }
+        ensures answer { AnswersPiece part.now result self.old self.new }
         ensures stops { IfErr result (λ why. IsOfFeed why) }
-        ensures done { (free bs : List ℕ) → IsFed free bs self.old → AreOfMap self.old.map free →
-            OnOk result (Changes (WritesOn self.old.map free bs part.now) (D.content disk.old) (D.content disk.new)) }
-        ensures outside { (free bs : List ℕ) → IsFed free bs self.old →
-            OnOk result (Changes (WritesAtRest self.old.map free (length bs) (length (bs
-            ++ part.now))) (D.content disk.old) (D.content disk.new)) }
-        ensures stopped { (free bs : List ℕ) → IsFed free bs self.old →
-            OnErr result (Changes (StopsAtRest self.old.map free (length bs)) (D.content disk.old)
-            (D.content disk.new)) }
+        ensures writes { WritesPiece part.now result self.old (D.content disk.old) (D.content disk.new) }
         ensures time { IsTrue (D.tells_moments disk.old) → (free bs : List ℕ) → IsFed free bs self.old →
             ElapsesOutside self.old.map free (D.moment disk.old) (D.moment disk.new) (D.left_since disk.old)
             (D.left_since disk.new) }
-        ensures same { self.new.blocks ≡ self.old.blocks }
-        ensures map { self.new.map ≡ self.old.map }
+        ensures same { StaysOn self.old self.new }
 
-        ensures cause { IfErr result (λ why. IsDiskStop why → HasRisen (D.faults disk.old) (D.faults disk.new)) }
-        ensures faults { D.faults disk.old ≤ D.faults disk.new }
-        ensures calls { D.calls disk.new ≤ D.calls disk.old + 3 * ((begun + length part.now) / 4096) }
-        ensures orders { D.orders disk.new ≡ D.orders disk.old }
-        ensures blocks { D.block_count disk.new ≡ D.block_count disk.old }
-        ensures telling { D.tells_moments disk.new ≡ D.tells_moments disk.old }
+        ensures called { HasCalled D.Disk (AtMost (3 * ((begun + length part.now) / 4096)))
+            (IsErrAnd result IsDiskStop) disk.old disk.new }
     {
         self.checker.take(part)?;
         let end = begun + part.len();
@@ -249,12 +193,15 @@ impl StreamIn {
             return Ok(());
         }
         let page = Page::from_bytes(&self.page);
+        let slots = SwapSlots {
+            table: &self.table,
+            map: &self.map,
+        };
         let writer = put_full(
             self.writer.take(),
             &mut self.frames,
             &mut self.runs,
-            &self.table,
-            &self.map,
+            &slots,
             disk,
             &page,
         )?;
@@ -269,37 +216,15 @@ impl StreamIn {
 
         ensures again { (why : InStop) → self.stop ≡ Some why → (result ≡ Err why) × (disk.new ≡ disk.old) }
 
-        ensures short { (free bs : List ℕ) → IsFed free bs self → (fault : StreamFault) →
-            (result ≡ Err (stop.Stream fault)) ↔ (short_fault bs ≡ Some fault) }
+        ensures answer { EndsStream self result }
         ensures untouched { (fault : StreamFault) → result ≡ Err (stop.Stream fault) → disk.new ≡ disk.old }
-        ensures saved { (free bs : List ℕ) → IsFed free bs self → IfOk result (λ n. n ≡ image_pages bs) }
-        ensures marked { (free bs : List ℕ) → IsFed free bs self →
-            OnOk result (Changes (Marks (laid_block self.map free 0)) (D.content disk.old) (D.content disk.new)) }
-        ensures holds { (area : AreaValue) (free bs : List ℕ) → TakesInto area free bs self →
-            OnOk result (Changes (ComesIn area free bs) (D.content disk.old) (D.content disk.new)) }
-        ensures whole { (area : AreaValue) (free bs : List ℕ) → TakesInto area free bs self →
-            IfSome (D.content disk.old) (λ held. IfSome (D.content disk.new) (LeavesWhole area free bs held)) }
-        ensures leaves { IsGoing self →
-            IfErr result (λ why. Changes (LeavesAt why) (D.content disk.old) (D.content disk.new)) }
-        ensures stops { IsGoing self → IfErr result (λ why. IsOfFinish why) }
-        ensures no_swap { IsGoing self → IfErr result (λ why. IfNoSwap why (λ reason. IfSome (D.content disk.old)
-            (λ held. kind_fault (area_kind (block (as_it_reads held) 0)) ≡ Some reason))) }
+        ensures marks { MarksStream self result (D.content disk.old) (D.content disk.new) }
+        ensures stopped { IsGoing self → StopsMark IsOfFinish result (D.content disk.old) (D.content disk.new) }
+        ensures moments { IsTrue (D.tells_moments disk.old) →
+            LeavesMark self (D.moment disk.old) (D.moment disk.new) (D.left_since disk.old) (D.left_since disk.new)
+            (D.content disk.old) }
 
-        ensures cause { IsGoing self →
-            IfErr result (λ why. IsDiskStop why → HasRisen (D.faults disk.old) (D.faults disk.new)) }
-        ensures faults { D.faults disk.old ≤ D.faults disk.new }
-        ensures calls { D.calls disk.new ≤ D.calls disk.old + 6 }
-        ensures orders { D.orders disk.new ≡ D.orders disk.old }
-        ensures blocks { D.block_count disk.new ≡ D.block_count disk.old }
-        ensures telling { D.tells_moments disk.new ≡ D.tells_moments disk.old }
-        ensures time { IsTrue (D.tells_moments disk.old) → (free bs : List ℕ) → IsFed free bs self →
-            IfSome (D.content disk.old) (λ held.
-            ElapsesOverMark (laid_block self.map free 0) (D.moment disk.old) (D.moment disk.new) (D.left_since disk.old)
-            (D.left_since disk.new) held) }
-        ensures cut { IsTrue (D.tells_moments disk.old) → (area : AreaValue) (free bs : List ℕ) →
-            TakesInto area free bs self →
-            IfSome (D.content disk.old) (MarksWhole area free bs (D.moment disk.old) (D.left_since disk.old)
-            (D.left_since disk.new)) }
+        ensures called { HasCalled D.Disk (AtMost 6) (IsGoing self × IsErrAnd result IsDiskStop) disk.old disk.new }
     {
         if let Some(stop) = self.stop {
             return Err(stop);

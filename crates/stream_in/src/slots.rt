@@ -6,7 +6,14 @@ ghost use Rattle.swap_slots.specs.Table.{LiesIn};
 
 use frame_arena::Frames;
 use sig_header::Area;
-use swap_slots::{SlotEntry, SlotTable};
+use swap_slots::{FileMap, SlotEntry, SlotTable};
+
+/// The slots of an area: the table that tells which are free, and the blocks that they lie on.
+#[derive(Drop)]
+pub(crate) struct SwapSlots<'a> {
+    pub table: &'a SlotTable,
+    pub map: &'a FileMap,
+}
 
 /// Makes the slots that an area can't give bad: the header's, and its bad pages.
 pub(crate) fn set_bad(frames: &mut Frames, table: &SlotTable, area: &Area)

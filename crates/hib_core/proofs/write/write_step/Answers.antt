@@ -10,16 +10,16 @@ use Rattle.hib_core.proofs.write.write_step.Goals as goal
 pub step-requires-clause-sets : goal.step-requires-clause-sets
 step-requires-clause-sets g c =
     let sets = c.args.snapshot.now in
-    three_sets (λ o p z. AreOfImage c.args.writer.now.info o p z) sets.origs c.origs-origs.result.now.members sets.copies c.copies-copies.result.now.members sets.zeros (members_in (option_copied c.zeros-zeros.result))
-    (sym (ap (λ (s : FrameSet). s.members) c.origs-origs.ensures)) (sym (ap (λ (s : FrameSet). s.members) c.copies-copies.ensures))
-    (sym (zeros_members c.zeros-zeros.result sets.zones sets.zeros c.zeros-zeros.ensures.set c.zeros-zeros.ensures.plain)) c.requires.sets
+    three_sets (λ o p z. AreOfImage c.args.writer.now.info o p z) sets.origs c.origs.result.now.members sets.copies c.copies.result.now.members sets.zeros (members_in (option_copied c.zeros.result))
+    (sym (ap (λ (s : FrameSet). s.members) c.origs.ensures)) (sym (ap (λ (s : FrameSet). s.members) c.copies.ensures))
+    (sym (zeros_members c.zeros.result sets.zones sets.zeros c.zeros.ensures.set c.zeros.ensures.plain)) c.requires.sets
 
 pub step-requires-clause-reading : goal.step-requires-clause-reading
 step-requires-clause-reading g c =
     let sets = c.args.snapshot.now in
-    three_sets (λ o p z. HasReadCopies o p z c.args.writer.now) sets.origs c.origs-origs.result.now.members sets.copies c.copies-copies.result.now.members sets.zeros (members_in (option_copied c.zeros-zeros.result))
-    (sym (ap (λ (s : FrameSet). s.members) c.origs-origs.ensures)) (sym (ap (λ (s : FrameSet). s.members) c.copies-copies.ensures))
-    (sym (zeros_members c.zeros-zeros.result sets.zones sets.zeros c.zeros-zeros.ensures.set c.zeros-zeros.ensures.plain)) c.requires.reading
+    three_sets (λ o p z. HasReadCopies o p z c.args.writer.now) sets.origs c.origs.result.now.members sets.copies c.copies.result.now.members sets.zeros (members_in (option_copied c.zeros.result))
+    (sym (ap (λ (s : FrameSet). s.members) c.origs.ensures)) (sym (ap (λ (s : FrameSet). s.members) c.copies.ensures))
+    (sym (zeros_members c.zeros.result sets.zones sets.zeros c.zeros.ensures.set c.zeros.ensures.plain)) c.requires.reading
 
 pub returns-clause-made : goal.returns-clause-made
 returns-clause-made g c = λ ok.
@@ -27,11 +27,11 @@ returns-clause-made g c = λ ok.
     record {
       made = λ free is. three_sets
           (λ o p z. Changes (Makes (write_next free c.args.writer.now (page_next (stream_of_sets c.args.writer.now.info c.args.frames.now o p z) c.args.writer.now))) (g.D.Disk.content c.args.disk.now) (g.D.Disk.content c.step.new.disk))
-          c.origs-origs.result.now.members sets.origs c.copies-copies.result.now.members sets.copies (members_in (option_copied c.zeros-zeros.result)) sets.zeros
-          (ap (λ (s : FrameSet). s.members) c.origs-origs.ensures) (ap (λ (s : FrameSet). s.members) c.copies-copies.ensures)
-          (zeros_members c.zeros-zeros.result sets.zones sets.zeros c.zeros-zeros.ensures.set c.zeros-zeros.ensures.plain) (c.step.ensures.written free is ok);
-      taken = c.step.ensures.taken;
-      same = c.step.ensures.image;
+          c.origs.result.now.members sets.origs c.copies.result.now.members sets.copies (members_in (option_copied c.zeros.result)) sets.zeros
+          (ap (λ (s : FrameSet). s.members) c.origs.ensures) (ap (λ (s : FrameSet). s.members) c.copies.ensures)
+          (zeros_members c.zeros.result sets.zones sets.zeros c.zeros.ensures.set c.zeros.ensures.plain) (c.step.ensures.page.written free is ok);
+      taken = c.step.ensures.slots.taken;
+      same = c.step.ensures.writer.image;
     }
 
 pub returns-clause-failed : goal.returns-clause-failed
@@ -40,16 +40,22 @@ returns-clause-failed g c = λ fault.
     record {
       made = λ free is. three_sets
           (λ o p z. Changes (FailsToMake (write_next free c.args.writer.now (page_next (stream_of_sets c.args.writer.now.info c.args.frames.now o p z) c.args.writer.now))) (g.D.Disk.content c.args.disk.now) (g.D.Disk.content c.step.new.disk))
-          c.origs-origs.result.now.members sets.origs c.copies-copies.result.now.members sets.copies (members_in (option_copied c.zeros-zeros.result)) sets.zeros
-          (ap (λ (s : FrameSet). s.members) c.origs-origs.ensures) (ap (λ (s : FrameSet). s.members) c.copies-copies.ensures)
-          (zeros_members c.zeros-zeros.result sets.zones sets.zeros c.zeros-zeros.ensures.set c.zeros-zeros.ensures.plain) (c.step.ensures.failed free is fault);
-      taken = c.step.ensures.taken;
-      same = c.step.ensures.image;
+          c.origs.result.now.members sets.origs c.copies.result.now.members sets.copies (members_in (option_copied c.zeros.result)) sets.zeros
+          (ap (λ (s : FrameSet). s.members) c.origs.ensures) (ap (λ (s : FrameSet). s.members) c.copies.ensures)
+          (zeros_members c.zeros.result sets.zones sets.zeros c.zeros.ensures.set c.zeros.ensures.plain) (c.step.ensures.page.failed free is fault);
+      taken = c.step.ensures.slots.taken;
+      same = c.step.ensures.writer.image;
     }
 
-pub returns-clause-reading : goal.returns-clause-reading
-returns-clause-reading g c = λ goes.
+pub returns-clause-writer : goal.returns-clause-writer
+returns-clause-writer g c =
     let sets = c.args.snapshot.now in
-    three_sets (λ o p z. HasReadCopies o p z c.step.new.self) c.origs-origs.result.now.members sets.origs c.copies-copies.result.now.members sets.copies (members_in (option_copied c.zeros-zeros.result)) sets.zeros
-    (ap (λ (s : FrameSet). s.members) c.origs-origs.ensures) (ap (λ (s : FrameSet). s.members) c.copies-copies.ensures)
-    (zeros_members c.zeros-zeros.result sets.zones sets.zeros c.zeros-zeros.ensures.set c.zeros-zeros.ensures.plain) (c.step.ensures.reading goes)
+    let advances = c.step.ensures.writer in
+    record {
+      image = advances.image;
+      made = advances.made;
+      writing = advances.writing;
+      cursor = λ goes. three_sets (λ o p z. HasReadCopies o p z c.step.new.self) c.origs.result.now.members sets.origs c.copies.result.now.members sets.copies (members_in (option_copied c.zeros.result)) sets.zeros
+          (ap (λ (s : FrameSet). s.members) c.origs.ensures) (ap (λ (s : FrameSet). s.members) c.copies.ensures)
+          (zeros_members c.zeros.result sets.zones sets.zeros c.zeros.ensures.set c.zeros.ensures.plain) (advances.cursor goes);
+    }

@@ -1,4 +1,4 @@
-use Rattle.std.proofs.Common.{◌≡◌, ◌<◌, Some, IsTrue, sym, ap, subst, ◌∙◌}
+use Rattle.std.proofs.Common.{◌≡◌, ◌<◌, Some, IsTrue, sym, ap, subst, ◌∙◌, rules}
 use Rattle.definitions.specs.Disk.{Changes, as_it_reads, block}
 use Rattle.plain_machine.specs.UsableArea.{kind_fault}
 use Rattle.sig_header.specs.AreaKind.{area_kind}
@@ -15,14 +15,18 @@ returns-in-Ok-version_1-clause-header g c =
     let some : 0 < blocks = subst (λ n. 0 < n) (sym c.sync.ensures.blocks) c.requires in
     header_read blocks c.in_ok-header.header (g.D.Disk.content c.args.disk.now) (g.D.Disk.content c.sync.new.self) some c.in-Ok.ensures.synced c.in_ok-header.ensures.header
 
-pub returns-in-Err-version_1-clause-no_swap : goal.returns-in-Err-version_1-clause-no_swap
-returns-in-Err-version_1-clause-no_swap g c =
-    let blocks = g.D.Disk.block_count c.sync.new.self in
-    let some : 0 < blocks = subst (λ n. 0 < n) (sym c.sync.ensures.blocks) c.requires in
-    let page = c.in_ok-header.header in
-    let read = header_read blocks page (g.D.Disk.content c.args.disk.now) (g.D.Disk.content c.sync.new.self) some c.in-Ok.ensures.synced c.in_ok-header.ensures.header in
-    if_map (IsHeader page) (λ held. kind_fault (area_kind (block (as_it_reads held) 0)) ≡ Some c.in-Err-version_1.why) (g.D.Disk.content c.args.disk.now)
-    (λ x e. ap (λ p. kind_fault (area_kind p)) (sym e) ∙ ap kind_fault (sym c.read.ensures) ∙ c.in-Err-version_1.ensures) read
+pub returns-in-Err-version_1-clause-stopped : goal.returns-in-Err-version_1-clause-stopped
+returns-in-Err-version_1-clause-stopped g c = record {
+  leaves = search rules;
+  stops = search rules;
+  no_swap =
+      let blocks = g.D.Disk.block_count c.sync.new.self in
+      let some : 0 < blocks = subst (λ n. 0 < n) (sym c.sync.ensures.blocks) c.requires in
+      let page = c.in_ok-header.header in
+      let read = header_read blocks page (g.D.Disk.content c.args.disk.now) (g.D.Disk.content c.sync.new.self) some c.in-Ok.ensures.synced c.in_ok-header.ensures.header in
+      if_map (IsHeader page) (λ held. kind_fault (area_kind (block (as_it_reads held) 0)) ≡ Some c.in-Err-version_1.why) (g.D.Disk.content c.args.disk.now)
+      (λ x e. ap (λ p. kind_fault (area_kind p)) (sym e) ∙ ap kind_fault (sym c.read.ensures) ∙ c.in-Err-version_1.ensures) read;
+}
 
 -- Moments.
 

@@ -1,4 +1,4 @@
-use Rattle.std.proofs.Common.{◌≡◌, IsTrue, sym, ap, subst, ◌∙◌}
+use Rattle.std.proofs.Common.{◌≡◌, IsTrue, sym, ap, subst, ◌∙◌, rules}
 use Rattle.definitions.specs.Disk.{Changes}
 use Rattle.definitions.specs.SwapHeader.{marked}
 use Rattle.stream_in.specs.Marking.{LeavesAt}
@@ -19,16 +19,20 @@ returns-clause-marked g c =
     (told_marks page c.mark-marked.result c.args.first a b d c.in_ok-header.ensures.area over c.in_ok-header.ensures.header c.in_ok-header.ensures.synced)
     c.write_mark.ensures.marked
 
-pub returns-clause-leaves : goal.returns-clause-leaves
-returns-clause-leaves g c =
-    let page = c.in_ok-header.header in
-    let over = c.mark-marked.result in
-    let a = g.D.Disk.content c.args.disk.now in
-    let b = g.D.Disk.content c.header_to_mark.new.disk in
-    let d = g.D.Disk.content c.write_mark.new.disk in
-    if_err c.write_mark.result (λ why. Changes (FailsToMark over why) b d) (λ why. Changes (LeavesAt why) a d)
-    (λ why h. told_leaves page over why a b d c.in_ok-header.ensures.area c.mark-marked.ensures.undone c.in_ok-header.ensures.synced h)
-    c.write_mark.ensures.leaves
+pub returns-clause-stopped : goal.returns-clause-stopped
+returns-clause-stopped g c = record {
+  leaves =
+      let page = c.in_ok-header.header in
+      let over = c.mark-marked.result in
+      let a = g.D.Disk.content c.args.disk.now in
+      let b = g.D.Disk.content c.header_to_mark.new.disk in
+      let d = g.D.Disk.content c.write_mark.new.disk in
+      if_err c.write_mark.result (λ why. Changes (FailsToMark over why) b d) (λ why. Changes (LeavesAt why) a d)
+      (λ why h. told_leaves page over why a b d c.in_ok-header.ensures.area c.mark-marked.ensures.undone c.in_ok-header.ensures.synced h)
+      c.write_mark.ensures.leaves;
+  stops = search rules;
+  no_swap = search rules;
+}
 
 pub returns-clause-time : goal.returns-clause-time
 returns-clause-time g c = λ tells.
@@ -39,7 +43,7 @@ returns-clause-time g c = λ tells.
     let over : c.mark-marked.result ≡ marked page c.args.first 2 0 = c.mark-marked.ensures.marked ∙ ap (λ first. marked page first 2 0) c.from.ensures in
     told_marking (g.D.Disk.block_count d) c.args.first page c.mark-marked.result (g.D.Disk.moment d) (g.D.Disk.moment e) (g.D.Disk.moment f) (g.D.Disk.left_since d) (g.D.Disk.left_since e) (g.D.Disk.left_since f)
     (g.D.Disk.content d) (g.D.Disk.content e) (g.met.D.Disk.well_formed d) c.requires c.in_ok-header.ensures.area over c.in_ok-header.ensures.header c.in_ok-header.ensures.synced
-    (c.header_to_mark.ensures.time tells) (c.write_mark.ensures.time (subst IsTrue (sym c.header_to_mark.ensures.telling) tells)) (λ t v le. g.met.D.Disk.counts_now d t v tells le)
+    (c.header_to_mark.ensures.time tells) (c.write_mark.ensures.time (subst IsTrue (sym c.header_to_mark.ensures.called.telling) tells)) (λ t v le. g.met.D.Disk.counts_now d t v tells le)
 
 pub returns-in_err-header-clause-time : goal.returns-in_err-header-clause-time
 returns-in_err-header-clause-time g c = λ tells.

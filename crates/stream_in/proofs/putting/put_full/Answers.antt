@@ -1,4 +1,4 @@
-use Rattle.std.proofs.Common.{◌≡◌, ℕ, List, IsTrue, refl, sym, subst, Err, ap, ◌∙◌}
+use Rattle.std.proofs.Common.{◌≡◌, ℕ, List, IsTrue, refl, sym, subst, Err, ap, ◌∙◌, rules}
 use Rattle.std.proofs.lemmas.Result.{err_from_is_err_and}
 use Rattle.stream_in.specs.declared.stop.InStop.TheVariants as stop
 use Rattle.image_write.specs.Writing.{Writing, BlocksBelow, writes_of}
@@ -26,7 +26,7 @@ pub put_page-requires-clause-writing : goal.put_page-requires-clause-writing
 put_page-requires-clause-writing g c =
     let free = c.requires.put.0 in
     let at = c.in_ok-writer.ensures.ready free (g.D.Disk.block_count c.args.disk.now) c.requires.put.1 in
-    (free, at.writing, on_same_disk c.in_ok-writer.writer free (g.D.Disk.block_count c.args.disk.now) (g.D.Disk.block_count c.at_rest.new.disk) c.at_rest.ensures.blocks at.on_disk)
+    (free, at.writing, on_same_disk c.in_ok-writer.writer free (g.D.Disk.block_count c.args.disk.now) (g.D.Disk.block_count c.at_rest.new.disk) c.at_rest.ensures.called.blocks at.on_disk)
 
 pub put_page-requires-clause-page : goal.put_page-requires-clause-page
 put_page-requires-clause-page g c =
@@ -37,7 +37,7 @@ pub returns-in-More-clause-put : goal.returns-in-More-clause-put
 returns-in-More-clause-put g c = λ free can.
     let blocks = g.D.Disk.block_count c.args.disk.now in
     let at = c.in_ok-writer.ensures.ready free blocks can in
-    has_put free c.at_page.new.frames c.put_page.new.frames c.args.table.now c.args.map.now blocks c.args.page.now c.args.writer c.in_ok-writer.writer c.put_page.new.writer at
+    has_put free c.at_page.new.frames c.put_page.new.frames c.args.slots.now.table.now c.args.slots.now.map.now blocks c.args.page.now c.args.writer c.in_ok-writer.writer c.put_page.new.writer at
     (c.in-More.ensures.put free at.writing tt)
 
 pub returns-in-More-clause-enough : goal.returns-in-More-clause-enough
@@ -48,7 +48,7 @@ pub returns-in-Done-clause-put : goal.returns-in-Done-clause-put
 returns-in-Done-clause-put g c = λ free can.
     let blocks = g.D.Disk.block_count c.args.disk.now in
     let at = c.in_ok-writer.ensures.ready free blocks can in
-    has_put free c.at_page.new.frames c.put_page.new.frames c.args.table.now c.args.map.now blocks c.args.page.now c.args.writer c.in_ok-writer.writer c.put_page.new.writer at
+    has_put free c.at_page.new.frames c.put_page.new.frames c.args.slots.now.table.now c.args.slots.now.map.now blocks c.args.page.now c.args.writer c.in_ok-writer.writer c.put_page.new.writer at
     (c.in-Done.ensures.put free at.writing tt)
 
 pub returns-in-Done-clause-enough : goal.returns-in-Done-clause-enough
@@ -59,11 +59,11 @@ returns-in-Done-clause-enough g c = λ free can.
 
 pub returns-in_err-writer-clause-stopped : goal.returns-in_err-writer-clause-stopped
 returns-in_err-writer-clause-stopped g c = λ free can.
-    on_any_err c.from_residual.result _ (told_unwritten c.args.map.now free c.args.writer (g.D.Disk.content c.args.disk.now) (g.D.Disk.content c.args.disk.now) refl)
+    on_any_err c.from_residual.result _ (told_unwritten c.args.slots.now.map.now free c.args.writer (g.D.Disk.content c.args.disk.now) (g.D.Disk.content c.args.disk.now) refl)
 
 pub returns-in_err-at_rest-clause-stopped : goal.returns-in_err-at_rest-clause-stopped
 returns-in_err-at_rest-clause-stopped g c = λ free can.
-    on_any_err c.from_residual-in_err-at_rest.result _ (told_unwritten c.args.map.now free c.args.writer (g.D.Disk.content c.args.disk.now) (g.D.Disk.content c.at_rest.new.disk) c.in_err-at_rest.ensures.same)
+    on_any_err c.from_residual-in_err-at_rest.result _ (told_unwritten c.args.slots.now.map.now free c.args.writer (g.D.Disk.content c.args.disk.now) (g.D.Disk.content c.at_rest.new.disk) c.in_err-at_rest.ensures.same)
 
 pub returns-in-More-clause-outside : goal.returns-in-More-clause-outside
 returns-in-More-clause-outside g c = λ free can.
@@ -71,8 +71,8 @@ returns-in-More-clause-outside g c = λ free can.
     let a = g.D.Disk.content c.args.disk.now in
     let b = g.D.Disk.content c.at_rest.new.disk in
     let d = g.D.Disk.content c.put_page.new.disk in
-    told_puts c.args.map.now free c.args.writer c.is_none-begins.result a b d (is_first c.args.writer c.is_none-begins.result c.is_none-begins.ensures) c.in_ok-at_rest.ensures.rested
-    (told_same c.args.map.now c.in_ok-writer.writer.extents free b d at.extents_are (c.put_page.ensures.outside free at.writing))
+    told_puts c.args.slots.now.map.now free c.args.writer c.is_none-begins.result a b d (is_first c.args.writer c.is_none-begins.result c.is_none-begins.ensures) c.in_ok-at_rest.ensures.rested
+    (told_same c.args.slots.now.map.now c.in_ok-writer.writer.extents free b d at.extents_are (c.put_page.ensures.outside free at.writing))
 
 pub returns-in-Done-clause-outside : goal.returns-in-Done-clause-outside
 returns-in-Done-clause-outside g c = λ free can.
@@ -80,8 +80,8 @@ returns-in-Done-clause-outside g c = λ free can.
     let a = g.D.Disk.content c.args.disk.now in
     let b = g.D.Disk.content c.at_rest.new.disk in
     let d = g.D.Disk.content c.put_page.new.disk in
-    told_puts c.args.map.now free c.args.writer c.is_none-begins.result a b d (is_first c.args.writer c.is_none-begins.result c.is_none-begins.ensures) c.in_ok-at_rest.ensures.rested
-    (told_same c.args.map.now c.in_ok-writer.writer.extents free b d at.extents_are (c.put_page.ensures.outside free at.writing))
+    told_puts c.args.slots.now.map.now free c.args.writer c.is_none-begins.result a b d (is_first c.args.writer c.is_none-begins.result c.is_none-begins.ensures) c.in_ok-at_rest.ensures.rested
+    (told_same c.args.slots.now.map.now c.in_ok-writer.writer.extents free b d at.extents_are (c.put_page.ensures.outside free at.writing))
 
 pub returns-in-Fault-clause-stopped : goal.returns-in-Fault-clause-stopped
 returns-in-Fault-clause-stopped g c = λ free can.
@@ -89,34 +89,55 @@ returns-in-Fault-clause-stopped g c = λ free can.
     let a = g.D.Disk.content c.args.disk.now in
     let b = g.D.Disk.content c.at_rest.new.disk in
     let d = g.D.Disk.content c.put_page.new.disk in
-    told_fails c.args.map.now free c.args.writer a d (told_puts c.args.map.now free c.args.writer c.is_none-begins.result a b d (is_first c.args.writer c.is_none-begins.result c.is_none-begins.ensures) c.in_ok-at_rest.ensures.rested
-    (told_same c.args.map.now c.in_ok-writer.writer.extents free b d at.extents_are (c.put_page.ensures.outside free at.writing)))
+    told_fails c.args.slots.now.map.now free c.args.writer a d (told_puts c.args.slots.now.map.now free c.args.writer c.is_none-begins.result a b d (is_first c.args.writer c.is_none-begins.result c.is_none-begins.ensures) c.in_ok-at_rest.ensures.rested
+    (told_same c.args.slots.now.map.now c.in_ok-writer.writer.extents free b d at.extents_are (c.put_page.ensures.outside free at.writing)))
 
 -- How often the disk is called.
 
-pub returns-in-More-clause-calls : goal.returns-in-More-clause-calls
-returns-in-More-clause-calls g c =
-    let free = c.requires.put.0 in
-    let blocks = g.D.Disk.block_count c.args.disk.now in
-    let at = c.in_ok-writer.ensures.ready free blocks c.requires.put.1 in
-    few_calls free c.args.frames.now c.args.table.now c.args.map.now blocks c.args.page.now c.args.writer c.in_ok-writer.writer c.is_none-begins.result (g.D.Disk.calls c.args.disk.now) (g.D.Disk.calls c.at_rest.new.disk) (g.D.Disk.calls c.put_page.new.disk)
-    c.requires.put.1 (is_first c.args.writer c.is_none-begins.result c.is_none-begins.ensures) at.pages at.made (λ e. ap g.D.Disk.calls (c.at_rest.ensures.uncalled e)) c.at_rest.ensures.calls c.put_page.ensures.calls c.put_page.ensures.first_call
+pub returns-in-More-clause-called : goal.returns-in-More-clause-called
+returns-in-More-clause-called g c = record {
+  cause = search rules;
+  faults = search rules;
+  calls =
+      let free = c.requires.put.0 in
+      let blocks = g.D.Disk.block_count c.args.disk.now in
+      let at = c.in_ok-writer.ensures.ready free blocks c.requires.put.1 in
+      few_calls free c.args.frames.now c.args.slots.now.table.now c.args.slots.now.map.now blocks c.args.page.now c.args.writer c.in_ok-writer.writer c.is_none-begins.result (g.D.Disk.calls c.args.disk.now) (g.D.Disk.calls c.at_rest.new.disk) (g.D.Disk.calls c.put_page.new.disk)
+      c.requires.put.1 (is_first c.args.writer c.is_none-begins.result c.is_none-begins.ensures) at.pages at.made (λ e. ap g.D.Disk.calls (c.at_rest.ensures.uncalled e)) c.at_rest.ensures.called.calls c.put_page.ensures.called.calls c.put_page.ensures.first_call;
+  orders = search rules;
+  blocks = search rules;
+  telling = search rules;
+}
 
-pub returns-in-Done-clause-calls : goal.returns-in-Done-clause-calls
-returns-in-Done-clause-calls g c =
-    let free = c.requires.put.0 in
-    let blocks = g.D.Disk.block_count c.args.disk.now in
-    let at = c.in_ok-writer.ensures.ready free blocks c.requires.put.1 in
-    few_calls free c.args.frames.now c.args.table.now c.args.map.now blocks c.args.page.now c.args.writer c.in_ok-writer.writer c.is_none-begins.result (g.D.Disk.calls c.args.disk.now) (g.D.Disk.calls c.at_rest.new.disk) (g.D.Disk.calls c.put_page.new.disk)
-    c.requires.put.1 (is_first c.args.writer c.is_none-begins.result c.is_none-begins.ensures) at.pages at.made (λ e. ap g.D.Disk.calls (c.at_rest.ensures.uncalled e)) c.at_rest.ensures.calls c.put_page.ensures.calls c.put_page.ensures.first_call
+pub returns-in-Done-clause-called : goal.returns-in-Done-clause-called
+returns-in-Done-clause-called g c = record {
+  cause = search rules;
+  faults = search rules;
+  calls =
+      let free = c.requires.put.0 in
+      let blocks = g.D.Disk.block_count c.args.disk.now in
+      let at = c.in_ok-writer.ensures.ready free blocks c.requires.put.1 in
+      few_calls free c.args.frames.now c.args.slots.now.table.now c.args.slots.now.map.now blocks c.args.page.now c.args.writer c.in_ok-writer.writer c.is_none-begins.result (g.D.Disk.calls c.args.disk.now) (g.D.Disk.calls c.at_rest.new.disk) (g.D.Disk.calls c.put_page.new.disk)
+      c.requires.put.1 (is_first c.args.writer c.is_none-begins.result c.is_none-begins.ensures) at.pages at.made (λ e. ap g.D.Disk.calls (c.at_rest.ensures.uncalled e)) c.at_rest.ensures.called.calls c.put_page.ensures.called.calls c.put_page.ensures.first_call;
+  orders = search rules;
+  blocks = search rules;
+  telling = search rules;
+}
 
-pub returns-in-Fault-clause-calls : goal.returns-in-Fault-clause-calls
-returns-in-Fault-clause-calls g c =
-    let free = c.requires.put.0 in
-    let blocks = g.D.Disk.block_count c.args.disk.now in
-    let at = c.in_ok-writer.ensures.ready free blocks c.requires.put.1 in
-    few_calls free c.args.frames.now c.args.table.now c.args.map.now blocks c.args.page.now c.args.writer c.in_ok-writer.writer c.is_none-begins.result (g.D.Disk.calls c.args.disk.now) (g.D.Disk.calls c.at_rest.new.disk) (g.D.Disk.calls c.put_page.new.disk)
-    c.requires.put.1 (is_first c.args.writer c.is_none-begins.result c.is_none-begins.ensures) at.pages at.made (λ e. ap g.D.Disk.calls (c.at_rest.ensures.uncalled e)) c.at_rest.ensures.calls c.put_page.ensures.calls c.put_page.ensures.first_call
+pub returns-in-Fault-clause-called : goal.returns-in-Fault-clause-called
+returns-in-Fault-clause-called g c = record {
+  cause = search rules;
+  faults = search rules;
+  calls =
+      let free = c.requires.put.0 in
+      let blocks = g.D.Disk.block_count c.args.disk.now in
+      let at = c.in_ok-writer.ensures.ready free blocks c.requires.put.1 in
+      few_calls free c.args.frames.now c.args.slots.now.table.now c.args.slots.now.map.now blocks c.args.page.now c.args.writer c.in_ok-writer.writer c.is_none-begins.result (g.D.Disk.calls c.args.disk.now) (g.D.Disk.calls c.at_rest.new.disk) (g.D.Disk.calls c.put_page.new.disk)
+      c.requires.put.1 (is_first c.args.writer c.is_none-begins.result c.is_none-begins.ensures) at.pages at.made (λ e. ap g.D.Disk.calls (c.at_rest.ensures.uncalled e)) c.at_rest.ensures.called.calls c.put_page.ensures.called.calls c.put_page.ensures.first_call;
+  orders = search rules;
+  blocks = search rules;
+  telling = search rules;
+}
 
 -- What is on the disk.
 
@@ -129,9 +150,9 @@ returns-in-More-clause-done g c = λ free pages can of is.
     let a = g.D.Disk.content c.args.disk.now in
     let b = g.D.Disk.content c.at_rest.new.disk in
     let d = g.D.Disk.content c.put_page.new.disk in
-    let on_disk = on_same_disk w free before (g.D.Disk.block_count c.at_rest.new.disk) c.at_rest.ensures.blocks at.on_disk in
-    told_made c.args.map.now free (pages_in c.args.page.now c.args.writer) pages (writes_made c.args.writer) c.put_page.new.writer.written c.is_none-begins.result a b d c.in_ok-at_rest.ensures.rested
-    (more_same c.args.map.now w.extents free (pages_in c.args.page.now c.args.writer) w.info.pages pages (writes_made c.args.writer) w.written c.put_page.new.writer.written c.put_page.new.writer.written
+    let on_disk = on_same_disk w free before (g.D.Disk.block_count c.at_rest.new.disk) c.at_rest.ensures.called.blocks at.on_disk in
+    told_made c.args.slots.now.map.now free (pages_in c.args.page.now c.args.writer) pages (writes_made c.args.writer) c.put_page.new.writer.written c.is_none-begins.result a b d c.in_ok-at_rest.ensures.rested
+    (more_same c.args.slots.now.map.now w.extents free (pages_in c.args.page.now c.args.writer) w.info.pages pages (writes_made c.args.writer) w.written c.put_page.new.writer.written c.put_page.new.writer.written
     b d at.extents_are at.pages at.made refl
     (c.in-More.ensures.done free pages at.writing (subst P (sym at.extents_are) of) on_disk (is ∙ ap pages (sym at.count)) tt))
 
@@ -144,20 +165,20 @@ returns-in-Done-clause-done g c = λ free pages can of is.
     let a = g.D.Disk.content c.args.disk.now in
     let b = g.D.Disk.content c.at_rest.new.disk in
     let d = g.D.Disk.content c.put_page.new.disk in
-    let on_disk = on_same_disk w free before (g.D.Disk.block_count c.at_rest.new.disk) c.at_rest.ensures.blocks at.on_disk in
-    told_made c.args.map.now free (pages_in c.args.page.now c.args.writer) pages (writes_made c.args.writer) c.put_page.new.writer.written c.is_none-begins.result a b d c.in_ok-at_rest.ensures.rested
-    (more_same c.args.map.now w.extents free (pages_in c.args.page.now c.args.writer) w.info.pages pages (writes_made c.args.writer) w.written c.put_page.new.writer.written c.put_page.new.writer.written
+    let on_disk = on_same_disk w free before (g.D.Disk.block_count c.at_rest.new.disk) c.at_rest.ensures.called.blocks at.on_disk in
+    told_made c.args.slots.now.map.now free (pages_in c.args.page.now c.args.writer) pages (writes_made c.args.writer) c.put_page.new.writer.written c.is_none-begins.result a b d c.in_ok-at_rest.ensures.rested
+    (more_same c.args.slots.now.map.now w.extents free (pages_in c.args.page.now c.args.writer) w.info.pages pages (writes_made c.args.writer) w.written c.put_page.new.writer.written c.put_page.new.writer.written
     b d at.extents_are at.pages at.made refl
     (c.in-Done.ensures.done free pages at.writing (subst P (sym at.extents_are) of) on_disk (is ∙ ap pages (sym at.count)) tt))
 
 -- Moments.
 
 pub returns-in_err-writer-clause-time : goal.returns-in_err-writer-clause-time
-returns-in_err-writer-clause-time g c = λ tells free can. outside_none c.args.map.now free (g.D.Disk.moment c.args.disk.now) (g.D.Disk.left_since c.args.disk.now)
+returns-in_err-writer-clause-time g c = λ tells free can. outside_none c.args.slots.now.map.now free (g.D.Disk.moment c.args.disk.now) (g.D.Disk.left_since c.args.disk.now)
 
 pub returns-in_err-at_rest-clause-time : goal.returns-in_err-at_rest-clause-time
 returns-in_err-at_rest-clause-time g c = λ tells free can.
-    alike_outside c.args.map.now free (g.D.Disk.moment c.args.disk.now) (g.D.Disk.moment c.at_rest.new.disk) (g.D.Disk.left_since c.args.disk.now) (g.D.Disk.left_since c.at_rest.new.disk) (c.at_rest.ensures.time tells)
+    alike_outside c.args.slots.now.map.now free (g.D.Disk.moment c.args.disk.now) (g.D.Disk.moment c.at_rest.new.disk) (g.D.Disk.left_since c.args.disk.now) (g.D.Disk.left_since c.at_rest.new.disk) (c.at_rest.ensures.time tells)
 
 pub returns-in-More-clause-time : goal.returns-in-More-clause-time
 returns-in-More-clause-time g c = λ tells free can.
@@ -165,10 +186,10 @@ returns-in-More-clause-time g c = λ tells free can.
     let d = c.args.disk.now in
     let e = c.at_rest.new.disk in
     let f = c.put_page.new.disk in
-    outside_then c.args.map.now free (g.D.Disk.moment d) (g.D.Disk.moment e) (g.D.Disk.moment f) (g.D.Disk.left_since d) (g.D.Disk.left_since e) (g.D.Disk.left_since f)
-    (alike_outside c.args.map.now free (g.D.Disk.moment d) (g.D.Disk.moment e) (g.D.Disk.left_since d) (g.D.Disk.left_since e) (c.at_rest.ensures.time tells))
-    (outside_same c.args.map.now c.in_ok-writer.writer.extents free (g.D.Disk.moment e) (g.D.Disk.moment f) (g.D.Disk.left_since e) (g.D.Disk.left_since f)
-    at.extents_are (c.put_page.ensures.time (subst IsTrue (sym c.at_rest.ensures.telling) tells) free at.writing))
+    outside_then c.args.slots.now.map.now free (g.D.Disk.moment d) (g.D.Disk.moment e) (g.D.Disk.moment f) (g.D.Disk.left_since d) (g.D.Disk.left_since e) (g.D.Disk.left_since f)
+    (alike_outside c.args.slots.now.map.now free (g.D.Disk.moment d) (g.D.Disk.moment e) (g.D.Disk.left_since d) (g.D.Disk.left_since e) (c.at_rest.ensures.time tells))
+    (outside_same c.args.slots.now.map.now c.in_ok-writer.writer.extents free (g.D.Disk.moment e) (g.D.Disk.moment f) (g.D.Disk.left_since e) (g.D.Disk.left_since f)
+    at.extents_are (c.put_page.ensures.time (subst IsTrue (sym c.at_rest.ensures.called.telling) tells) free at.writing))
 
 pub returns-in-Done-clause-time : goal.returns-in-Done-clause-time
 returns-in-Done-clause-time g c = λ tells free can.
@@ -176,10 +197,10 @@ returns-in-Done-clause-time g c = λ tells free can.
     let d = c.args.disk.now in
     let e = c.at_rest.new.disk in
     let f = c.put_page.new.disk in
-    outside_then c.args.map.now free (g.D.Disk.moment d) (g.D.Disk.moment e) (g.D.Disk.moment f) (g.D.Disk.left_since d) (g.D.Disk.left_since e) (g.D.Disk.left_since f)
-    (alike_outside c.args.map.now free (g.D.Disk.moment d) (g.D.Disk.moment e) (g.D.Disk.left_since d) (g.D.Disk.left_since e) (c.at_rest.ensures.time tells))
-    (outside_same c.args.map.now c.in_ok-writer.writer.extents free (g.D.Disk.moment e) (g.D.Disk.moment f) (g.D.Disk.left_since e) (g.D.Disk.left_since f)
-    at.extents_are (c.put_page.ensures.time (subst IsTrue (sym c.at_rest.ensures.telling) tells) free at.writing))
+    outside_then c.args.slots.now.map.now free (g.D.Disk.moment d) (g.D.Disk.moment e) (g.D.Disk.moment f) (g.D.Disk.left_since d) (g.D.Disk.left_since e) (g.D.Disk.left_since f)
+    (alike_outside c.args.slots.now.map.now free (g.D.Disk.moment d) (g.D.Disk.moment e) (g.D.Disk.left_since d) (g.D.Disk.left_since e) (c.at_rest.ensures.time tells))
+    (outside_same c.args.slots.now.map.now c.in_ok-writer.writer.extents free (g.D.Disk.moment e) (g.D.Disk.moment f) (g.D.Disk.left_since e) (g.D.Disk.left_since f)
+    at.extents_are (c.put_page.ensures.time (subst IsTrue (sym c.at_rest.ensures.called.telling) tells) free at.writing))
 
 pub returns-in-Fault-clause-time : goal.returns-in-Fault-clause-time
 returns-in-Fault-clause-time g c = λ tells free can.
@@ -187,7 +208,7 @@ returns-in-Fault-clause-time g c = λ tells free can.
     let d = c.args.disk.now in
     let e = c.at_rest.new.disk in
     let f = c.put_page.new.disk in
-    outside_then c.args.map.now free (g.D.Disk.moment d) (g.D.Disk.moment e) (g.D.Disk.moment f) (g.D.Disk.left_since d) (g.D.Disk.left_since e) (g.D.Disk.left_since f)
-    (alike_outside c.args.map.now free (g.D.Disk.moment d) (g.D.Disk.moment e) (g.D.Disk.left_since d) (g.D.Disk.left_since e) (c.at_rest.ensures.time tells))
-    (outside_same c.args.map.now c.in_ok-writer.writer.extents free (g.D.Disk.moment e) (g.D.Disk.moment f) (g.D.Disk.left_since e) (g.D.Disk.left_since f)
-    at.extents_are (c.put_page.ensures.time (subst IsTrue (sym c.at_rest.ensures.telling) tells) free at.writing))
+    outside_then c.args.slots.now.map.now free (g.D.Disk.moment d) (g.D.Disk.moment e) (g.D.Disk.moment f) (g.D.Disk.left_since d) (g.D.Disk.left_since e) (g.D.Disk.left_since f)
+    (alike_outside c.args.slots.now.map.now free (g.D.Disk.moment d) (g.D.Disk.moment e) (g.D.Disk.left_since d) (g.D.Disk.left_since e) (c.at_rest.ensures.time tells))
+    (outside_same c.args.slots.now.map.now c.in_ok-writer.writer.extents free (g.D.Disk.moment e) (g.D.Disk.moment f) (g.D.Disk.left_since e) (g.D.Disk.left_since f)
+    at.extents_are (c.put_page.ensures.time (subst IsTrue (sym c.at_rest.ensures.called.telling) tells) free at.writing))

@@ -24,15 +24,14 @@ info_of-info-requires-clause-saved c = (counted_few c.args.machine.now c.args.fr
 pub steps_of-requires-clause-saved : goal.steps_of-requires-clause-saved
 steps_of-requires-clause-saved c = (counted_few c.args.machine.now c.args.frames.now c.args.self.now c.args.counts c.zones-zones.ensures.hardware c.requires.counted).0
 
-pub begin-writer-requires-clause-table : goal.begin-writer-requires-clause-table
-begin-writer-requires-clause-table c =
-    subst (LiesIn c.copy.new.frames) (sym c.slot_table-slots.ensures.table) (slot_table_lies c.args.machine.now.hw c.copy.new.frames c.zones-zones.ensures.hardware (c.copy.ensures.size ∙ c.requires.ready.run.size))
-
-pub begin-writer-requires-clause-matches : goal.begin-writer-requires-clause-matches
-begin-writer-requires-clause-matches c =
+pub begin-writer-requires-clause-slots : goal.begin-writer-requires-clause-slots
+begin-writer-requires-clause-slots c =
     let snapshot = copies_at c.args.machine.now.hw c.args.frames.now c.zones-zones.result.now c.frame_table-table.result c.args.self.now.snapshot c.copy.new.self c.zones-zones.ensures.zones c.frame_table-table.ensures.frame c.copy.ensures.sets in
     let same = free_slots_stay c.args.machine.now c.args.frames.now c.copy.new.frames c.args.self.now c.args.counts _ _ c.requires.counted (ap (λ (s : Taken). s.copies) snapshot) c.copy.ensures.others in
-    subst (λ (t : SlotTable). Matches c.copy.new.frames t c.args.runs.now) (sym c.slot_table-slots.ensures.table) (still_matches c.args.machine.now.hw c.args.frames.now c.copy.new.frames c.args.runs.now same c.requires.ready.run.matches)
+    record {
+      lies = subst (LiesIn c.copy.new.frames) (sym c.slot_table-slots.ensures.table) (slot_table_lies c.args.machine.now.hw c.copy.new.frames c.zones-zones.ensures.hardware (c.copy.ensures.size ∙ c.requires.ready.run.size));
+      matches = subst (λ (t : SlotTable). Matches c.copy.new.frames t c.args.runs.now) (sym c.slot_table-slots.ensures.table) (still_matches c.args.machine.now.hw c.args.frames.now c.copy.new.frames c.args.runs.now same c.requires.ready.run.matches);
+    }
 
 pub begin-writer-requires-clause-room : goal.begin-writer-requires-clause-room
 begin-writer-requires-clause-room c =

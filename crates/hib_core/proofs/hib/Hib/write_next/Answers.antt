@@ -27,7 +27,7 @@ returns-in-More-clause-row g c = λ k told.
     let made = c.in-More.ensures.made tt in
     let row = row_made machine c.args.frames.now c.write_step.new.frames c.args.runs.now hib saving c.in-Write.writer writer' (stage.Write (after_step saving) writer') (g.D.Disk.content c.args.disk.now) (g.D.Disk.content c.write_step.new.disk) k
     c.requires.ready c.write_step.ensures.pages c.in-Write.is whole made
-    (numbers_on machine.hw c.args.frames.now c.write_step.new.frames saving c.in-Write.writer writer' made.same (c.in-More.ensures.written tt) (c.in-More.ensures.goes_on tt)) refl told in (
+    (numbers_on machine.hw c.args.frames.now c.write_step.new.frames saving c.in-Write.writer writer' made.same (c.in-More.ensures.writer.made tt) (λ free h. c.in-More.ensures.writer.writing free h tt)) refl told in (
       row.0,
       row.1,
       row_of machine c.args.frames.now hib machine c.write_step.new.frames (record hib { stage = stage.Write (after_step saving) writer' }) _ (reply.More (saving.done + 1) saving.steps) c.more.result k row.0
@@ -54,7 +54,7 @@ returns-in-Fault-clause-row g c = λ k told.
     let machine = c.args.machine.now in
     let whole = content_of (g.D.Disk.block_count c.args.disk.now) machine.blocks (g.D.Disk.content c.args.disk.now) k told c.requires.blocks (g.met.D.Disk.well_formed c.args.disk.now) in
     row_failed machine c.args.frames.now c.write_step.new.frames c.give_up.new.frames c.args.runs.now c.args.self.now c.give_up.new.self c.in-Write.saving c.in-Write.writer c.write_step.new.writer
-    (g.D.Disk.content c.args.disk.now) (g.D.Disk.content c.write_step.new.disk) k c.requires.ready c.write_step.ensures.pages c.give_up.ensures.pages c.write_step.ensures.size c.in-Write.is whole (c.in-Fault.ensures.failed refl)
+    (g.D.Disk.content c.args.disk.now) (g.D.Disk.content c.write_step.new.disk) k c.requires.ready c.write_step.ensures.pages c.give_up.ensures.pages c.write_step.ensures.kept.len c.in-Write.is whole (c.in-Fault.ensures.failed refl)
     c.give_up.ensures.hib c.give_up.ensures.given told
 
 pub returns-in-More-clause-ready : goal.returns-in-More-clause-ready
@@ -65,10 +65,10 @@ returns-in-More-clause-ready g c =
     let writer' = c.write_step.new.writer in
     let ready : (saving.done + 4 < saving.steps) × CanWrite machine.hw machine.blocks c.args.frames.now hib.snapshot saving c.in-Write.writer = next_at machine c.args.frames.now c.args.runs.now hib (stage.Write saving c.in-Write.writer) c.in-Write.is c.requires.ready in
     let made = c.in-More.ensures.made tt in
-    let next = can_write_on machine.hw machine.blocks c.args.frames.now c.write_step.new.frames hib.snapshot saving c.in-Write.writer writer' ready.1 made.same (c.in-More.ensures.written tt) (c.in-More.ensures.goes_on tt) (c.in-More.ensures.reading tt) c.write_step.ensures.size in
+    let next = can_write_on machine.hw machine.blocks c.args.frames.now c.write_step.new.frames hib.snapshot saving c.in-Write.writer writer' ready.1 made.same (c.in-More.ensures.writer.made tt) (λ free h. c.in-More.ensures.writer.writing free h tt) (c.in-More.ensures.writer.cursor tt) c.write_step.ensures.kept.len in
     subst (λ (s : Saving). CanStep machine c.write_step.new.frames c.write_step.new.runs (record hib { stage = stage.Write s writer' })) (sym c.after_step.ensures)
-    (ready_on machine c.args.frames.now c.write_step.new.frames c.args.runs.now c.write_step.new.runs hib (stage.Write (after_step saving) writer') c.requires.ready c.write_step.ensures.size
-    (subst (λ (t : SlotTable). Matches c.write_step.new.frames t c.write_step.new.runs) ready.1.table c.write_step.ensures.matches) next)
+    (ready_on machine c.args.frames.now c.write_step.new.frames c.args.runs.now c.write_step.new.runs hib (stage.Write (after_step saving) writer') c.requires.ready c.write_step.ensures.kept.len
+    (subst (λ (t : SlotTable). Matches c.write_step.new.frames t c.write_step.new.runs) ready.1.table c.write_step.ensures.kept.runs) next)
 
 pub returns-in-Done-clause-ready : goal.returns-in-Done-clause-ready
 returns-in-Done-clause-ready g c =
@@ -77,8 +77,8 @@ returns-in-Done-clause-ready g c =
     let saving = c.in-Write.saving in
     let ready : (saving.done + 4 < saving.steps) × CanWrite machine.hw machine.blocks c.args.frames.now hib.snapshot saving c.in-Write.writer = next_at machine c.args.frames.now c.args.runs.now hib (stage.Write saving c.in-Write.writer) c.in-Write.is c.requires.ready in
     subst (λ (s : Saving). CanStep machine c.write_step.new.frames c.write_step.new.runs (record hib { stage = stage.Sync s })) (sym c.after_step-saving.ensures)
-    (ready_on machine c.args.frames.now c.write_step.new.frames c.args.runs.now c.write_step.new.runs hib (stage.Sync (after_step saving)) c.requires.ready c.write_step.ensures.size
-    (subst (λ (t : SlotTable). Matches c.write_step.new.frames t c.write_step.new.runs) ready.1.table c.write_step.ensures.matches)
+    (ready_on machine c.args.frames.now c.write_step.new.frames c.args.runs.now c.write_step.new.runs hib (stage.Sync (after_step saving)) c.requires.ready c.write_step.ensures.kept.len
+    (subst (λ (t : SlotTable). Matches c.write_step.new.frames t c.write_step.new.runs) ready.1.table c.write_step.ensures.kept.runs)
     (can_sync saving c.in-Write.writer ready.1.done ready.1.steps (c.in-Done.ensures.done refl)))
 
 pub returns-in-More-clause-memory : goal.returns-in-More-clause-memory

@@ -1,4 +1,4 @@
-use Rattle.std.proofs.Common.{◌≡◌, ℕ, List, get_or, sym, ap, ◌∙◌, subst, arith}
+use Rattle.std.proofs.Common.{◌≡◌, ℕ, List, get_or, sym, ap, ◌∙◌, subst, arith, rules}
 use Rattle.definitions.specs.Tables.{with_entries}
 use Rattle.definitions.proofs.FreeSlots.{IsStrictlyIncreasing-free_slots}
 use Rattle.swap_slots.specs.Table.{free_in}
@@ -9,27 +9,33 @@ use Rattle.image_write.proofs.Paging.{first_slot, one_slot}
 use Rattle.image_write.proofs.Mapping.{few_free, first_taken}
 use Rattle.image_write.proofs.writer.Writer.begin.Goals as goal
 
-pub returns-clause-writing : goal.returns-clause-writing
-returns-clause-writing c =
+pub returns-clause-begun : goal.returns-clause-begun
+returns-clause-begun c =
     let frames = c.args.frames.now in
     let table = c.args.table.now in
     let free = free_in frames table in
     let room = c.requires.room in
-    let at : IsTable frames table = record { pages = c.take_block-block.ensures.pages; lies = c.requires.table } in
+    let at : IsTable frames table = record { pages = c.take_block-block.ensures.pages; lies = c.requires.slots.lies } in
     let few = few_free frames table in
     let slots = first_taken frames table at (omega arith) in
     record {
-      ascending = IsStrictlyIncreasing-free_slots table.slots table.first frames;
-      few = let count = c.free_count.ensures in let fits = c.free_count.type_inv in omega arith;
-      room = room;
-      blocks = c.requires.blocks;
-      unfinished = omega arith;
-      slots = subst (λ memory. HasTaken free 1 memory table) (sym c.take_block-block.ensures.taken) slots;
-      first = c.take_block-block.ensures.block;
-      block = c.take_block-block.ensures.block;
-      entries = c.begin.ensures.entries;
-      link = c.begin.ensures.link;
-      next = λ e. absurd (omega arith);
+      info_is = search rules;
+      extents_are = search rules;
+      table_is = search rules;
+      written = search rules;
+      writing = record {
+        ascending = IsStrictlyIncreasing-free_slots table.slots table.first frames;
+        few = let count = c.free_count.ensures in let fits = c.free_count.type_inv in omega arith;
+        room = room;
+        blocks = c.requires.blocks;
+        unfinished = omega arith;
+        slots = subst (λ memory. HasTaken free 1 memory table) (sym c.take_block-block.ensures.taken) slots;
+        first = c.take_block-block.ensures.block;
+        block = c.take_block-block.ensures.block;
+        entries = c.begin.ensures.entries;
+        link = c.begin.ensures.link;
+        next = λ e. absurd (omega arith);
+      };
     }
 
 pub returns-clause-reading : goal.returns-clause-reading

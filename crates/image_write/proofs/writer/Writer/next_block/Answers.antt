@@ -10,7 +10,7 @@ use Rattle.image_write.proofs.writer.Writer.next_block.Goals as goal
 pub unwrap-slot-requires : goal.unwrap-slot-requires
 unwrap-slot-requires c =
     let w = c.args.self.now in
-    let is = slot_of_page c.requires.writing.0 c.args.frames.now w c.args.runs.now c.requires.writing.1 c.requires.page c.requires.matches in
+    let is = slot_of_page c.requires.writing.0 c.args.frames.now w c.args.runs.now c.requires.writing.1 c.requires.page c.requires.slots.matches in
     subst (λ (found : Option ℕ). IsSome found) (sym (c.first.ensures ∙ is)) refl
 
 pub overflow_cast-result : goal.overflow_cast-result
@@ -18,7 +18,7 @@ overflow_cast-result c =
     let w = c.args.self.now in
     let free = c.requires.writing.0 in
     let here = c.requires.writing.1 in
-    let is = slot_of_page free c.args.frames.now w c.args.runs.now here c.requires.page c.requires.matches in
+    let is = slot_of_page free c.args.frames.now w c.args.runs.now here c.requires.page c.requires.slots.matches in
     let slot = same_Some c.unwrap-slot.result (get_or free (page_place (page_of_write w.written)) 0) (sym c.unwrap-slot.ensures ∙ c.first.ensures ∙ is) in
     let block = c.block.ensures.block ∙ ap (block_of c.self.inside.extents) slot ∙ ap (λ (v : Writing). block_of v.extents (get_or free (page_place (page_of_write w.written)) 0)) c.self.view_is in
     let at : c.block.result ≡ block_of w.extents (get_or free (page_place (page_of_write w.written)) 0) = block in
@@ -30,7 +30,7 @@ returns c =
     let w = c.args.self.now in
     record {
       block = λ free h.
-          let is = slot_of_page free c.args.frames.now w c.args.runs.now h c.requires.page c.requires.matches in
+          let is = slot_of_page free c.args.frames.now w c.args.runs.now h c.requires.page c.requires.slots.matches in
           let slot = same_Some c.unwrap-slot.result (get_or free (page_place (page_of_write w.written)) 0) (sym c.unwrap-slot.ensures ∙ c.first.ensures ∙ is) in
           c.block.ensures.block ∙ ap (block_of c.self.inside.extents) slot ∙ ap (λ (v : Writing). block_of v.extents (get_or free (page_place (page_of_write w.written)) 0)) c.self.view_is;
     }

@@ -15,9 +15,9 @@ pub returns-clause-page : goal.returns-clause-page
 returns-clause-page c =
     let w = writing c.self.inside in
     let is = c.self.view_is in
-    let origs = c.args.origs.now.members in
-    let copies = c.args.copies.now.members in
-    let zeros = members_in (option_copied c.args.zeros) in
+    let origs = c.args.sets.now.origs.now.members in
+    let copies = c.args.sets.now.copies.now.members in
+    let zeros = members_in (option_copied c.args.sets.now.zeros) in
     let sets : AreOfImage w.info origs copies zeros = subst (λ (v : Writing). AreOfImage v.info origs copies zeros) (sym is) c.requires.sets in
     let reading : HasReadCopies origs copies zeros w = subst (λ (v : Writing). HasReadCopies origs copies zeros v) (sym is) c.requires.reading in
     let page : page_of_write w.written < w.info.pages = subst (λ (v : Writing). page_of_write v.written < v.info.pages) (sym is) c.requires.page in
@@ -45,9 +45,9 @@ pub returns-clause-reading : goal.returns-clause-reading
 returns-clause-reading c =
     let w = writing c.self.inside in
     let is = c.self.view_is in
-    let origs = c.args.origs.now.members in
-    let copies = c.args.copies.now.members in
-    let zeros = members_in (option_copied c.args.zeros) in
+    let origs = c.args.sets.now.origs.now.members in
+    let copies = c.args.sets.now.copies.now.members in
+    let zeros = members_in (option_copied c.args.sets.now.zeros) in
     let sets : AreOfImage w.info origs copies zeros = subst (λ (v : Writing). AreOfImage v.info origs copies zeros) (sym is) c.requires.sets in
     let reading : HasReadCopies origs copies zeros w = subst (λ (v : Writing). HasReadCopies origs copies zeros v) (sym is) c.requires.reading in
     let page : page_of_write w.written < w.info.pages = subst (λ (v : Writing). page_of_write v.written < v.info.pages) (sym is) c.requires.page in

@@ -8,5 +8,5 @@ use Rattle.image_write.proofs.writer.Writer.next_head.Goals as goal
 
 pub returns : goal.returns
 returns c saved =
-    let numbers = marked_numbers c.args.origs.now.members (members_in (option_copied c.args.zeros)) in
+    let numbers = marked_numbers c.args.sets.now.origs.now.members (members_in (option_copied c.args.sets.now.zeros)) in
     subst (λ (v : Writing). c.head_page.result ≡ get_or (stream_pages v.info numbers saved) (page_of_write v.written) []) c.self.view_is (c.head_page.ensures saved)

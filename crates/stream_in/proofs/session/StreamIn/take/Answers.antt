@@ -21,39 +21,46 @@ use Rattle.stream_in.proofs.session.StreamIn.take.Goals as goal
 began : (s : StreamIn) (begun : ℕ) → (free : List ℕ) × (bs : List ℕ) × IsFed free bs s × (begun ≡ length bs % 4096) → (free bs : List ℕ) → IsFed free bs s → begun ≡ length bs % 4096
 began s begun (free', bs', fed', is) free bs fed = is ∙ ap (λ n. n % 4096) (sym fed'.taken.taken ∙ fed.taken.taken)
 
-pub returns-in_err-take-clause-stream : goal.returns-in_err-take-clause-stream
-returns-in_err-take-clause-stream g c = λ free bs fed fault is.
-    let p = err_from_is_err_and c.from_residual.result c.from_residual.ensures.1 in
-    let told : stop.Stream c.in_err-take.field-0.0 ≡ stop.Stream fault = err_same c.from_residual.result _ _ (p.1 ∙ ap Err p.2) is in
-    let same : c.in_err-take.field-0.0 ≡ fault = cc in
-    (c.take.ensures.fault bs fed.taken fault).0 (c.in_err-take.was ∙ ap Err same)
+pub returns-in_err-take-clause-answer : goal.returns-in_err-take-clause-answer
+returns-in_err-take-clause-answer g c = record {
+  taken = search rules;
+  stream = λ free bs fed fault is.
+      let p = err_from_is_err_and c.from_residual.result c.from_residual.ensures.1 in
+      let told : stop.Stream c.in_err-take.field-0.0 ≡ stop.Stream fault = err_same c.from_residual.result _ _ (p.1 ∙ ap Err p.2) is in
+      let same : c.in_err-take.field-0.0 ≡ fault = cc in
+      (c.take.ensures.fault bs fed.taken fault).0 (c.in_err-take.was ∙ ap Err same);
+  suffice = λ free bs fed fault is.
+      let p = err_from_is_err_and c.from_residual.result c.from_residual.ensures.1 in
+      let told : stop.Stream c.in_err-take.field-0.0 ≡ stop.Stream fault = err_same c.from_residual.result _ _ (p.1 ∙ ap Err p.2) is in
+      let same : c.in_err-take.field-0.0 ≡ fault = cc in
+      let begun : c.args.begun ≡ length bs % 4096 = began c.args.self.now c.args.begun c.requires.session free bs fed in
+      part_suffice free bs c.args.part.now fault c.args.self.now.frames c.args.self.now.table c.args.self.now.map c.args.self.now.writer fed.output (omega arith)
+      ((c.take.ensures.fault bs fed.taken fault).0 (c.in_err-take.was ∙ ap Err same));
+  too_few = search rules;
+}
 
-pub returns-in_err-take-clause-suffice : goal.returns-in_err-take-clause-suffice
-returns-in_err-take-clause-suffice g c = λ free bs fed fault is.
-    let p = err_from_is_err_and c.from_residual.result c.from_residual.ensures.1 in
-    let told : stop.Stream c.in_err-take.field-0.0 ≡ stop.Stream fault = err_same c.from_residual.result _ _ (p.1 ∙ ap Err p.2) is in
-    let same : c.in_err-take.field-0.0 ≡ fault = cc in
-    let begun : c.args.begun ≡ length bs % 4096 = began c.args.self.now c.args.begun c.requires.session free bs fed in
-    part_suffice free bs c.args.part.now fault c.args.self.now.frames c.args.self.now.table c.args.self.now.map c.args.self.now.writer fed.output (omega arith)
-    ((c.take.ensures.fault bs fed.taken fault).0 (c.in_err-take.was ∙ ap Err same))
-
-pub returns-then-end-lt-PAGE-clause-taken : goal.returns-then-end-lt-PAGE-clause-taken
-returns-then-end-lt-PAGE-clause-taken g c = λ free bs fed.
-    let part = c.args.part.now in
-    let page = c.args.self.now.page in
-    let size : length page ≡ 4096 = search rules in
-    let begun : c.args.begun ≡ length bs % 4096 = began c.args.self.now c.args.begun c.requires.session free bs fed in
-    record {
-      taken = c.in_ok-take.ensures.taken bs fed.taken;
-      going = fed.going;
-      table_in = fed.table_in;
-      matched = fed.matched;
-      page_is = page_open bs part page c.copy_from_slice.new.self _ c.args.begun begun (omega arith) (omega arith) c.copy_from_slice.ensures.after fed.page_is;
-      few = fed.few;
-      count = fed.count;
-      on_disk = fed.on_disk;
-      output = output_open free bs part c.args.self.now.frames c.args.self.now.table c.args.self.now.map c.args.self.now.writer (omega arith) fed.output;
-    }
+pub returns-then-end-lt-PAGE-clause-answer : goal.returns-then-end-lt-PAGE-clause-answer
+returns-then-end-lt-PAGE-clause-answer g c = record {
+  taken = λ free bs fed.
+      let part = c.args.part.now in
+      let page = c.args.self.now.page in
+      let size : length page ≡ 4096 = search rules in
+      let begun : c.args.begun ≡ length bs % 4096 = began c.args.self.now c.args.begun c.requires.session free bs fed in
+      record {
+        taken = c.in_ok-take.ensures.taken bs fed.taken;
+        going = fed.going;
+        table_in = fed.table_in;
+        matched = fed.matched;
+        page_is = page_open bs part page c.copy_from_slice.new.self _ c.args.begun begun (omega arith) (omega arith) c.copy_from_slice.ensures.after fed.page_is;
+        few = fed.few;
+        count = fed.count;
+        on_disk = fed.on_disk;
+        output = output_open free bs part c.args.self.now.frames c.args.self.now.table c.args.self.now.map c.args.self.now.writer (omega arith) fed.output;
+      };
+  stream = search rules;
+  suffice = search rules;
+  too_few = search rules;
+}
 
 pub put_full-requires-clause-put : goal.put_full-requires-clause-put
 put_full-requires-clause-put g c =
@@ -74,146 +81,166 @@ put_full-requires-clause-put g c =
     (can_put free bs c.args.part.now c.from_bytes-page.result s.frames s.table s.map s.blocks s.writer fed.few fed.count fed.on_disk full fed.output)) in
     (free, can)
 
-pub returns-in_err-writer-clause-too_few : goal.returns-in_err-writer-clause-too_few
-returns-in_err-writer-clause-too_few g c = λ free bs fed told need is.
-    let s = c.args.self.now in
-    let size : length s.page ≡ 4096 = search rules in
-    let begun : c.args.begun ≡ length bs % 4096 = began s c.args.begun c.requires.session free bs fed in
-    let full : IsFull bs c.args.part.now c.from_bytes-page.result =
-    full_page bs c.args.part.now c.args.self.now.page c.copy_from_slice.new.self _ c.from_bytes-page.result c.args.begun begun (omega arith) (omega arith)
-    c.copy_from_slice.ensures.after fed.page_is c.from_bytes-page.ensures.bytes c.from_bytes-page.ensures.page c.requires.some (c.in_ok-take.ensures.taken bs fed.taken).read.sound in
-    let blocks = g.D.Disk.block_count c.args.disk.now in
-    let same : s.blocks ≡ blocks = sym c.requires.blocks in
-    let P : ℕ → Type 0 = λ n. CanPut free s.frames s.table s.map n c.from_bytes-page.result c.take-2.result in
-    let Q : Option Writing → Type 0 = λ w. CanPut free s.frames s.table s.map s.blocks c.from_bytes-page.result w in
-    let can = subst P same (subst Q (sym c.take-2.ensures.value)
-    (can_put free bs c.args.part.now c.from_bytes-page.result s.frames s.table s.map s.blocks s.writer fed.few fed.count fed.on_disk full fed.output)) in
-    let p = err_from_is_err_and c.from_residual-in_err-writer.result c.from_residual-in_err-writer.ensures.1 in
-    let why : c.in_err-writer.field-0.0 ≡ stop.NoSlots told need = err_same c.from_residual-in_err-writer.result _ _ (p.1 ∙ ap Err p.2) is in
-    let R : Option Writing → Type 0 = λ w. HasTooFew free c.from_bytes-page.result w told need in
-    let few = subst R c.take-2.ensures.value (c.put_full.ensures.too_few free can told need (c.in_err-writer.was ∙ ap Err why)) in
-    too_few free bs c.args.part.now c.from_bytes-page.result s.frames s.table s.map s.writer told need full fed.output few
+pub returns-in_err-writer-clause-answer : goal.returns-in_err-writer-clause-answer
+returns-in_err-writer-clause-answer g c = record {
+  taken = search rules;
+  stream = search rules;
+  suffice = search rules;
+  too_few = λ free bs fed told need is.
+      let s = c.args.self.now in
+      let size : length s.page ≡ 4096 = search rules in
+      let begun : c.args.begun ≡ length bs % 4096 = began s c.args.begun c.requires.session free bs fed in
+      let full : IsFull bs c.args.part.now c.from_bytes-page.result =
+      full_page bs c.args.part.now c.args.self.now.page c.copy_from_slice.new.self _ c.from_bytes-page.result c.args.begun begun (omega arith) (omega arith)
+      c.copy_from_slice.ensures.after fed.page_is c.from_bytes-page.ensures.bytes c.from_bytes-page.ensures.page c.requires.some (c.in_ok-take.ensures.taken bs fed.taken).read.sound in
+      let blocks = g.D.Disk.block_count c.args.disk.now in
+      let same : s.blocks ≡ blocks = sym c.requires.blocks in
+      let P : ℕ → Type 0 = λ n. CanPut free s.frames s.table s.map n c.from_bytes-page.result c.take-2.result in
+      let Q : Option Writing → Type 0 = λ w. CanPut free s.frames s.table s.map s.blocks c.from_bytes-page.result w in
+      let can = subst P same (subst Q (sym c.take-2.ensures.value)
+      (can_put free bs c.args.part.now c.from_bytes-page.result s.frames s.table s.map s.blocks s.writer fed.few fed.count fed.on_disk full fed.output)) in
+      let p = err_from_is_err_and c.from_residual-in_err-writer.result c.from_residual-in_err-writer.ensures.1 in
+      let why : c.in_err-writer.field-0.0 ≡ stop.NoSlots told need = err_same c.from_residual-in_err-writer.result _ _ (p.1 ∙ ap Err p.2) is in
+      let R : Option Writing → Type 0 = λ w. HasTooFew free c.from_bytes-page.result w told need in
+      let few = subst R c.take-2.ensures.value (c.put_full.ensures.too_few free can told need (c.in_err-writer.was ∙ ap Err why)) in
+      too_few free bs c.args.part.now c.from_bytes-page.result s.frames s.table s.map s.writer told need full fed.output few;
+}
 
-pub returns-clause-taken : goal.returns-clause-taken
-returns-clause-taken g c = λ free bs fed.
-    let s = c.args.self.now in
-    let size : length s.page ≡ 4096 = search rules in
-    let begun : c.args.begun ≡ length bs % 4096 = began s c.args.begun c.requires.session free bs fed in
-    let full : IsFull bs c.args.part.now c.from_bytes-page.result =
-    full_page bs c.args.part.now c.args.self.now.page c.copy_from_slice.new.self _ c.from_bytes-page.result c.args.begun begun (omega arith) (omega arith)
-    c.copy_from_slice.ensures.after fed.page_is c.from_bytes-page.ensures.bytes c.from_bytes-page.ensures.page c.requires.some (c.in_ok-take.ensures.taken bs fed.taken).read.sound in
-    let blocks = g.D.Disk.block_count c.args.disk.now in
-    let same : s.blocks ≡ blocks = sym c.requires.blocks in
-    let P : ℕ → Type 0 = λ n. CanPut free s.frames s.table s.map n c.from_bytes-page.result c.take-2.result in
-    let Q : Option Writing → Type 0 = λ w. CanPut free s.frames s.table s.map s.blocks c.from_bytes-page.result w in
-    let can = subst P same (subst Q (sym c.take-2.ensures.value)
-    (can_put free bs c.args.part.now c.from_bytes-page.result s.frames s.table s.map s.blocks s.writer fed.few fed.count fed.on_disk full fed.output)) in
-    let R : Option Writing → Type 0 = λ w. HasPut free c.put_full.new.frames s.table s.map c.from_bytes-page.result w c.in_ok-writer.writer in
-    let S : Option Writing → Type 0 = λ w. Suffice free c.from_bytes-page.result w in
-    let put = subst R c.take-2.ensures.value (c.in_ok-writer.ensures.put free can) in
-    let enough = subst S c.take-2.ensures.value (c.in_ok-writer.ensures.enough free can) in
-    record {
-      taken = c.in_ok-take.ensures.taken bs fed.taken;
-      going = fed.going;
-      table_in = subst (λ n. s.table.first + table_frame_count s.table.slots ≤ n) (sym c.put_full.ensures.len) fed.table_in;
-      matched = c.put_full.ensures.runs;
-      page_is = page_closed bs c.args.part.now _ (omega arith);
-      few = fed.few;
-      count = fed.count;
-      on_disk = fed.on_disk;
-      output = has_output free bs c.args.part.now c.from_bytes-page.result s.frames c.put_full.new.frames s.table s.map s.writer c.in_ok-writer.writer full fed.output put enough;
-    }
+pub returns-clause-answer : goal.returns-clause-answer
+returns-clause-answer g c = record {
+  taken = λ free bs fed.
+      let s = c.args.self.now in
+      let size : length s.page ≡ 4096 = search rules in
+      let begun : c.args.begun ≡ length bs % 4096 = began s c.args.begun c.requires.session free bs fed in
+      let full : IsFull bs c.args.part.now c.from_bytes-page.result =
+      full_page bs c.args.part.now c.args.self.now.page c.copy_from_slice.new.self _ c.from_bytes-page.result c.args.begun begun (omega arith) (omega arith)
+      c.copy_from_slice.ensures.after fed.page_is c.from_bytes-page.ensures.bytes c.from_bytes-page.ensures.page c.requires.some (c.in_ok-take.ensures.taken bs fed.taken).read.sound in
+      let blocks = g.D.Disk.block_count c.args.disk.now in
+      let same : s.blocks ≡ blocks = sym c.requires.blocks in
+      let P : ℕ → Type 0 = λ n. CanPut free s.frames s.table s.map n c.from_bytes-page.result c.take-2.result in
+      let Q : Option Writing → Type 0 = λ w. CanPut free s.frames s.table s.map s.blocks c.from_bytes-page.result w in
+      let can = subst P same (subst Q (sym c.take-2.ensures.value)
+      (can_put free bs c.args.part.now c.from_bytes-page.result s.frames s.table s.map s.blocks s.writer fed.few fed.count fed.on_disk full fed.output)) in
+      let R : Option Writing → Type 0 = λ w. HasPut free c.put_full.new.frames s.table s.map c.from_bytes-page.result w c.in_ok-writer.writer in
+      let S : Option Writing → Type 0 = λ w. Suffice free c.from_bytes-page.result w in
+      let put = subst R c.take-2.ensures.value (c.in_ok-writer.ensures.put free can) in
+      let enough = subst S c.take-2.ensures.value (c.in_ok-writer.ensures.enough free can) in
+      record {
+        taken = c.in_ok-take.ensures.taken bs fed.taken;
+        going = fed.going;
+        table_in = subst (λ n. s.table.first + table_frame_count s.table.slots ≤ n) (sym c.put_full.ensures.kept.len) fed.table_in;
+        matched = c.put_full.ensures.kept.runs;
+        page_is = page_closed bs c.args.part.now _ (omega arith);
+        few = fed.few;
+        count = fed.count;
+        on_disk = fed.on_disk;
+        output = has_output free bs c.args.part.now c.from_bytes-page.result s.frames c.put_full.new.frames s.table s.map s.writer c.in_ok-writer.writer full fed.output put enough;
+      };
+  stream = search rules;
+  suffice = search rules;
+  too_few = search rules;
+}
 
 -- The other blocks.
 
-pub returns-in_err-take-clause-stopped : goal.returns-in_err-take-clause-stopped
-returns-in_err-take-clause-stopped g c = λ free bs fed. on_err_any c.from_residual.result _ (told_no_stop c.args.self.now.map free (length bs) (g.D.Disk.content c.args.disk.now))
+pub returns-in_err-take-clause-writes : goal.returns-in_err-take-clause-writes
+returns-in_err-take-clause-writes g c = record {
+  done = search rules;
+  outside = search rules;
+  stopped = λ free bs fed. on_err_any c.from_residual.result _ (told_no_stop c.args.self.now.map free (length bs) (g.D.Disk.content c.args.disk.now));
+}
 
-pub returns-then-end-lt-PAGE-clause-outside : goal.returns-then-end-lt-PAGE-clause-outside
-returns-then-end-lt-PAGE-clause-outside g c = λ free bs fed.
-    let part = c.args.part.now in
-    let begun : c.args.begun ≡ length bs % 4096 = began c.args.self.now c.args.begun c.requires.session free bs fed in
-    told_part c.args.self.now.map free bs part (g.D.Disk.content c.args.disk.now) (omega arith)
+pub returns-then-end-lt-PAGE-clause-writes : goal.returns-then-end-lt-PAGE-clause-writes
+returns-then-end-lt-PAGE-clause-writes g c = record {
+  done = λ free bs fed of.
+      let part = c.args.part.now in
+      let a = g.D.Disk.content c.args.disk.now in
+      let begun : c.args.begun ≡ length bs % 4096 = began c.args.self.now c.args.begun c.requires.session free bs fed in
+      let few : length bs % 4096 + length part < 4096 = omega arith in
+      let sound = (c.in_ok-take.ensures.taken bs fed.taken).read.sound in
+      changes_none (WritesOn c.args.self.now.map free bs part) a a
+      (λ x. written_part c.args.self.now.map free bs part (as_it_reads x) few (goes_on bs part sound c.requires.some)) refl;
+  outside = λ free bs fed.
+      let part = c.args.part.now in
+      let begun : c.args.begun ≡ length bs % 4096 = began c.args.self.now c.args.begun c.requires.session free bs fed in
+      told_part c.args.self.now.map free bs part (g.D.Disk.content c.args.disk.now) (omega arith);
+  stopped = search rules;
+}
 
-pub returns-in_err-writer-clause-stopped : goal.returns-in_err-writer-clause-stopped
-returns-in_err-writer-clause-stopped g c = λ free bs fed.
-    let s = c.args.self.now in
-    let size : length s.page ≡ 4096 = search rules in
-    let begun : c.args.begun ≡ length bs % 4096 = began s c.args.begun c.requires.session free bs fed in
-    let full : IsFull bs c.args.part.now c.from_bytes-page.result =
-    full_page bs c.args.part.now c.args.self.now.page c.copy_from_slice.new.self _ c.from_bytes-page.result c.args.begun begun (omega arith) (omega arith)
-    c.copy_from_slice.ensures.after fed.page_is c.from_bytes-page.ensures.bytes c.from_bytes-page.ensures.page c.requires.some (c.in_ok-take.ensures.taken bs fed.taken).read.sound in
-    let blocks = g.D.Disk.block_count c.args.disk.now in
-    let same : s.blocks ≡ blocks = sym c.requires.blocks in
-    let P : ℕ → Type 0 = λ n. CanPut free s.frames s.table s.map n c.from_bytes-page.result c.take-2.result in
-    let Q : Option Writing → Type 0 = λ w. CanPut free s.frames s.table s.map s.blocks c.from_bytes-page.result w in
-    let can = subst P same (subst Q (sym c.take-2.ensures.value)
-    (can_put free bs c.args.part.now c.from_bytes-page.result s.frames s.table s.map s.blocks s.writer fed.few fed.count fed.on_disk full fed.output)) in
-    let a = g.D.Disk.content c.args.disk.now in
-    let b = g.D.Disk.content c.put_full.new.disk in
-    let R : Option Writing → Type 0 = λ w. Changes (FailsAtRest s.map free w) a b in
-    on_err_any c.from_residual-in_err-writer.result _ (told_stop free bs s.frames s.table s.map s.writer a b fed.output (subst R c.take-2.ensures.value (c.in_err-writer.ensures.stopped free can)))
+pub returns-in_err-writer-clause-writes : goal.returns-in_err-writer-clause-writes
+returns-in_err-writer-clause-writes g c = record {
+  done = search rules;
+  outside = search rules;
+  stopped = λ free bs fed.
+      let s = c.args.self.now in
+      let size : length s.page ≡ 4096 = search rules in
+      let begun : c.args.begun ≡ length bs % 4096 = began s c.args.begun c.requires.session free bs fed in
+      let full : IsFull bs c.args.part.now c.from_bytes-page.result =
+      full_page bs c.args.part.now c.args.self.now.page c.copy_from_slice.new.self _ c.from_bytes-page.result c.args.begun begun (omega arith) (omega arith)
+      c.copy_from_slice.ensures.after fed.page_is c.from_bytes-page.ensures.bytes c.from_bytes-page.ensures.page c.requires.some (c.in_ok-take.ensures.taken bs fed.taken).read.sound in
+      let blocks = g.D.Disk.block_count c.args.disk.now in
+      let same : s.blocks ≡ blocks = sym c.requires.blocks in
+      let P : ℕ → Type 0 = λ n. CanPut free s.frames s.table s.map n c.from_bytes-page.result c.take-2.result in
+      let Q : Option Writing → Type 0 = λ w. CanPut free s.frames s.table s.map s.blocks c.from_bytes-page.result w in
+      let can = subst P same (subst Q (sym c.take-2.ensures.value)
+      (can_put free bs c.args.part.now c.from_bytes-page.result s.frames s.table s.map s.blocks s.writer fed.few fed.count fed.on_disk full fed.output)) in
+      let a = g.D.Disk.content c.args.disk.now in
+      let b = g.D.Disk.content c.put_full.new.disk in
+      let R : Option Writing → Type 0 = λ w. Changes (FailsAtRest s.map free w) a b in
+      on_err_any c.from_residual-in_err-writer.result _ (told_stop free bs s.frames s.table s.map s.writer a b fed.output (subst R c.take-2.ensures.value (c.in_err-writer.ensures.stopped free can)));
+}
 
-pub returns-clause-outside : goal.returns-clause-outside
-returns-clause-outside g c = λ free bs fed.
-    let s = c.args.self.now in
-    let size : length s.page ≡ 4096 = search rules in
-    let begun : c.args.begun ≡ length bs % 4096 = began s c.args.begun c.requires.session free bs fed in
-    let full : IsFull bs c.args.part.now c.from_bytes-page.result =
-    full_page bs c.args.part.now c.args.self.now.page c.copy_from_slice.new.self _ c.from_bytes-page.result c.args.begun begun (omega arith) (omega arith)
-    c.copy_from_slice.ensures.after fed.page_is c.from_bytes-page.ensures.bytes c.from_bytes-page.ensures.page c.requires.some (c.in_ok-take.ensures.taken bs fed.taken).read.sound in
-    let blocks = g.D.Disk.block_count c.args.disk.now in
-    let same : s.blocks ≡ blocks = sym c.requires.blocks in
-    let P : ℕ → Type 0 = λ n. CanPut free s.frames s.table s.map n c.from_bytes-page.result c.take-2.result in
-    let Q : Option Writing → Type 0 = λ w. CanPut free s.frames s.table s.map s.blocks c.from_bytes-page.result w in
-    let can = subst P same (subst Q (sym c.take-2.ensures.value)
-    (can_put free bs c.args.part.now c.from_bytes-page.result s.frames s.table s.map s.blocks s.writer fed.few fed.count fed.on_disk full fed.output)) in
-    let a = g.D.Disk.content c.args.disk.now in
-    let b = g.D.Disk.content c.put_full.new.disk in
-    let R : Option Writing → Type 0 = λ w. Changes (PutsAtRest s.map free w) a b in
-    told_full free bs c.args.part.now s.frames s.table s.map s.writer a b (omega (arith, length-append bs c.args.part.now)) fed.output (subst R c.take-2.ensures.value (c.in_ok-writer.ensures.outside free can))
+pub returns-clause-writes : goal.returns-clause-writes
+returns-clause-writes g c = record {
+  done = λ free bs fed of.
+      let s = c.args.self.now in
+      let size : length s.page ≡ 4096 = search rules in
+      let begun : c.args.begun ≡ length bs % 4096 = began s c.args.begun c.requires.session free bs fed in
+      let full : IsFull bs c.args.part.now c.from_bytes-page.result =
+      full_page bs c.args.part.now c.args.self.now.page c.copy_from_slice.new.self _ c.from_bytes-page.result c.args.begun begun (omega arith) (omega arith)
+      c.copy_from_slice.ensures.after fed.page_is c.from_bytes-page.ensures.bytes c.from_bytes-page.ensures.page c.requires.some (c.in_ok-take.ensures.taken bs fed.taken).read.sound in
+      let blocks = g.D.Disk.block_count c.args.disk.now in
+      let same : s.blocks ≡ blocks = sym c.requires.blocks in
+      let P : ℕ → Type 0 = λ n. CanPut free s.frames s.table s.map n c.from_bytes-page.result c.take-2.result in
+      let Q : Option Writing → Type 0 = λ w. CanPut free s.frames s.table s.map s.blocks c.from_bytes-page.result w in
+      let can = subst P same (subst Q (sym c.take-2.ensures.value)
+      (can_put free bs c.args.part.now c.from_bytes-page.result s.frames s.table s.map s.blocks s.writer fed.few fed.count fed.on_disk full fed.output)) in
+      let R : Option Writing → Type 0 = λ w. HasPut free c.put_full.new.frames s.table s.map c.from_bytes-page.result w c.in_ok-writer.writer in
+      let S : Option Writing → Type 0 = λ w. Suffice free c.from_bytes-page.result w in
+      let put = subst R c.take-2.ensures.value (c.in_ok-writer.ensures.put free can) in
+      let enough = subst S c.take-2.ensures.value (c.in_ok-writer.ensures.enough free can) in
+      let begun' = has_output free bs c.args.part.now c.from_bytes-page.result s.frames c.put_full.new.frames s.table s.map s.writer c.in_ok-writer.writer full fed.output put enough in
+      let a = g.D.Disk.content c.args.disk.now in
+      let b = g.D.Disk.content c.put_full.new.disk in
+      let pages = page_at (bs ++ c.args.part.now) in
+      let next : c.from_bytes-page.result ≡ pages (pages_written s.writer) =
+      next_page bs c.args.part.now c.from_bytes-page.result full ∙ ap pages (page_count free bs c.args.part.now c.from_bytes-page.result s.frames s.table s.map s.writer full fed.output) in
+      let T : Option Writing → Type 0 = λ w. c.from_bytes-page.result ≡ pages (pages_written w) in
+      let U : Option Writing → Type 0 = λ w. Changes (MakesMore s.map free (pages_in c.from_bytes-page.result w) pages (writes_made w) c.in_ok-writer.writer.written) a b in
+      let made = subst U c.take-2.ensures.value (c.in_ok-writer.ensures.done free pages can of (subst T (sym c.take-2.ensures.value) next)) in
+      changes_as (MakesMore s.map free (pages_in c.from_bytes-page.result s.writer) pages (writes_made s.writer) c.in_ok-writer.writer.written) (WritesOn s.map free bs c.args.part.now) a b
+      (written_full free bs c.args.part.now c.from_bytes-page.result s.frames c.put_full.new.frames s.table s.map s.writer c.in_ok-writer.writer full fed.output begun') made;
+  outside = λ free bs fed.
+      let s = c.args.self.now in
+      let size : length s.page ≡ 4096 = search rules in
+      let begun : c.args.begun ≡ length bs % 4096 = began s c.args.begun c.requires.session free bs fed in
+      let full : IsFull bs c.args.part.now c.from_bytes-page.result =
+      full_page bs c.args.part.now c.args.self.now.page c.copy_from_slice.new.self _ c.from_bytes-page.result c.args.begun begun (omega arith) (omega arith)
+      c.copy_from_slice.ensures.after fed.page_is c.from_bytes-page.ensures.bytes c.from_bytes-page.ensures.page c.requires.some (c.in_ok-take.ensures.taken bs fed.taken).read.sound in
+      let blocks = g.D.Disk.block_count c.args.disk.now in
+      let same : s.blocks ≡ blocks = sym c.requires.blocks in
+      let P : ℕ → Type 0 = λ n. CanPut free s.frames s.table s.map n c.from_bytes-page.result c.take-2.result in
+      let Q : Option Writing → Type 0 = λ w. CanPut free s.frames s.table s.map s.blocks c.from_bytes-page.result w in
+      let can = subst P same (subst Q (sym c.take-2.ensures.value)
+      (can_put free bs c.args.part.now c.from_bytes-page.result s.frames s.table s.map s.blocks s.writer fed.few fed.count fed.on_disk full fed.output)) in
+      let a = g.D.Disk.content c.args.disk.now in
+      let b = g.D.Disk.content c.put_full.new.disk in
+      let R : Option Writing → Type 0 = λ w. Changes (PutsAtRest s.map free w) a b in
+      told_full free bs c.args.part.now s.frames s.table s.map s.writer a b (omega (arith, length-append bs c.args.part.now)) fed.output (subst R c.take-2.ensures.value (c.in_ok-writer.ensures.outside free can));
+  stopped = search rules;
+}
 
 -- What is on the disk.
-
-pub returns-then-end-lt-PAGE-clause-done : goal.returns-then-end-lt-PAGE-clause-done
-returns-then-end-lt-PAGE-clause-done g c = λ free bs fed of.
-    let part = c.args.part.now in
-    let a = g.D.Disk.content c.args.disk.now in
-    let begun : c.args.begun ≡ length bs % 4096 = began c.args.self.now c.args.begun c.requires.session free bs fed in
-    let few : length bs % 4096 + length part < 4096 = omega arith in
-    let sound = (c.in_ok-take.ensures.taken bs fed.taken).read.sound in
-    changes_none (WritesOn c.args.self.now.map free bs part) a a
-    (λ x. written_part c.args.self.now.map free bs part (as_it_reads x) few (goes_on bs part sound c.requires.some)) refl
-
-pub returns-clause-done : goal.returns-clause-done
-returns-clause-done g c = λ free bs fed of.
-    let s = c.args.self.now in
-    let size : length s.page ≡ 4096 = search rules in
-    let begun : c.args.begun ≡ length bs % 4096 = began s c.args.begun c.requires.session free bs fed in
-    let full : IsFull bs c.args.part.now c.from_bytes-page.result =
-    full_page bs c.args.part.now c.args.self.now.page c.copy_from_slice.new.self _ c.from_bytes-page.result c.args.begun begun (omega arith) (omega arith)
-    c.copy_from_slice.ensures.after fed.page_is c.from_bytes-page.ensures.bytes c.from_bytes-page.ensures.page c.requires.some (c.in_ok-take.ensures.taken bs fed.taken).read.sound in
-    let blocks = g.D.Disk.block_count c.args.disk.now in
-    let same : s.blocks ≡ blocks = sym c.requires.blocks in
-    let P : ℕ → Type 0 = λ n. CanPut free s.frames s.table s.map n c.from_bytes-page.result c.take-2.result in
-    let Q : Option Writing → Type 0 = λ w. CanPut free s.frames s.table s.map s.blocks c.from_bytes-page.result w in
-    let can = subst P same (subst Q (sym c.take-2.ensures.value)
-    (can_put free bs c.args.part.now c.from_bytes-page.result s.frames s.table s.map s.blocks s.writer fed.few fed.count fed.on_disk full fed.output)) in
-    let R : Option Writing → Type 0 = λ w. HasPut free c.put_full.new.frames s.table s.map c.from_bytes-page.result w c.in_ok-writer.writer in
-    let S : Option Writing → Type 0 = λ w. Suffice free c.from_bytes-page.result w in
-    let put = subst R c.take-2.ensures.value (c.in_ok-writer.ensures.put free can) in
-    let enough = subst S c.take-2.ensures.value (c.in_ok-writer.ensures.enough free can) in
-    let begun' = has_output free bs c.args.part.now c.from_bytes-page.result s.frames c.put_full.new.frames s.table s.map s.writer c.in_ok-writer.writer full fed.output put enough in
-    let a = g.D.Disk.content c.args.disk.now in
-    let b = g.D.Disk.content c.put_full.new.disk in
-    let pages = page_at (bs ++ c.args.part.now) in
-    let next : c.from_bytes-page.result ≡ pages (pages_written s.writer) =
-    next_page bs c.args.part.now c.from_bytes-page.result full ∙ ap pages (page_count free bs c.args.part.now c.from_bytes-page.result s.frames s.table s.map s.writer full fed.output) in
-    let T : Option Writing → Type 0 = λ w. c.from_bytes-page.result ≡ pages (pages_written w) in
-    let U : Option Writing → Type 0 = λ w. Changes (MakesMore s.map free (pages_in c.from_bytes-page.result w) pages (writes_made w) c.in_ok-writer.writer.written) a b in
-    let made = subst U c.take-2.ensures.value (c.in_ok-writer.ensures.done free pages can of (subst T (sym c.take-2.ensures.value) next)) in
-    changes_as (MakesMore s.map free (pages_in c.from_bytes-page.result s.writer) pages (writes_made s.writer) c.in_ok-writer.writer.written) (WritesOn s.map free bs c.args.part.now) a b
-    (written_full free bs c.args.part.now c.from_bytes-page.result s.frames c.put_full.new.frames s.table s.map s.writer c.in_ok-writer.writer full fed.output begun') made
 
 -- Moments.
 

@@ -1,0 +1,14 @@
+-- The page frames of the sets that a caller lends.
+use Rattle.std.specs.Prelude.{ℕ, List, option_copied}
+use Rattle.pfn_pack.specs.Places.{members_in}
+use Rattle.image_write.specs.declared.sets.Sets.{Sets}
+
+abbrev pub origs_of : Sets → List ℕ
+origs_of sets = sets.origs.now.members
+
+abbrev pub copies_of : Sets → List ℕ
+copies_of sets = sets.copies.now.members
+
+-- none where no page is left out
+abbrev pub zeros_of : Sets → List ℕ
+zeros_of sets = members_in (option_copied sets.zeros)
