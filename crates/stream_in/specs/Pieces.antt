@@ -14,8 +14,8 @@ use Rattle.stream_in.specs.declared.session.StreamIn.{StreamIn}
 use Rattle.stream_in.specs.declared.stop.InStop.{InStop}
 use Rattle.stream_in.specs.declared.stop.InStop.TheVariants as stop
 
--- What the answer says, where the session had taken some bytes: it has taken the piece too, or finds a fault in both.
--- That is told where the slots suffice, and else how few they are.
+-- What the answer says, where the session had taken these bytes: it has taken the piece too, or the two together have
+-- this fault. A fault is told where the free slots suffice, and else how few they are.
 pub record AnswersPiece (piece : List ℕ) (answer : Result (Unit {0}) InStop) (s s' : StreamIn) : Type 0 where
   pub taken : (free bs : List ℕ) → IsFed free bs s → OnOk answer (IsFed free (bs ++ piece) s')
   pub stream : (free bs : List ℕ) → IsFed free bs s → (fault : StreamFault) →

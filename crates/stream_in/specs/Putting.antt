@@ -1,14 +1,18 @@
 -- How far the pages of a stream are written. A page is written as it is full, with the map that it fills, and after
 -- the last page the last map.
 use Rattle.std.specs.Prelude.{◌≡◌, ◌<◌, ◌≤◌, ◌==◌, ℕ, ◌+◌, ◌%◌, ◌^◌, ◌||◌, Bool, false, IsTrue, List, length}
-use Rattle.std.specs.Prelude.{Option, Some, None, ⊤}
+use Rattle.std.specs.Prelude.{Option, Some, None, ⊤, Result, Err, IfOk, IfErr}
+use Rattle.definitions.specs.Disk.{Content, Changes}
 use Rattle.swap_slots.specs.Table.{free_in}
 use Rattle.swap_slots.specs.declared.table.SlotTable.{SlotTable}
 use Rattle.plain_machine.specs.Image.{page_of_write, is_map_write, laid_block}
 use Rattle.image_write.specs.Writing.{Writing, IsWriting, IsSameImage, BlocksBelow, writes_of}
 use Rattle.image_write.specs.declared.write_step.WriteStep.{WriteStep}
 use Rattle.image_write.specs.declared.write_step.WriteStep.TheVariants.{More, Done, Fault}
-use Rattle.stream_in.specs.Holding.{writes_after}
+use Rattle.stream_in.specs.Holding.{AreOfMap, MakesMore, writes_after}
+use Rattle.stream_in.specs.Outside.{PutsAtRest, FailsAtRest}
+use Rattle.stream_in.specs.declared.stop.InStop.{InStop}
+use Rattle.stream_in.specs.declared.stop.InStop.TheVariants as stop
 use Rattle.stream_check.specs.Grammar.{image_pages, all_pages, are_counts}
 
 -- whether a map is written next
@@ -88,6 +92,20 @@ pub record HasTooFew (free : List ℕ) (page : List ℕ) (old : Option Writing) 
   pub told_free : told ≡ length free
   pub told_need : need ≡ all_pages page + 1026
   pub fewer : told < need
+
+-- What the put of a full page says, where it can be put and these slots are free: the page is written where they
+-- suffice, to no other blocks than theirs; or they are too few, or a call of the disk failed.
+pub record PutsFull (free : List ℕ) (frames : List (List ℕ)) (table : SlotTable) (extents : List (ℕ × ℕ
+    × ℕ)) (page : List ℕ) (old : Option Writing) (answer : Result Writing InStop)
+    (before now : Option Content) : Type 0 where
+  pub put : IfOk answer (λ next. HasPut free frames table extents page old next)
+  pub enough : IfOk answer (λ next. Suffice free page old)
+  pub too_few : (told need : ℕ) → answer ≡ Err (stop.NoSlots told need) → HasTooFew free page old told need
+  pub done : (pages : ℕ → List ℕ) → AreOfMap extents free → page ≡ pages (pages_written old) →
+      IfOk answer (λ next. Changes
+      (MakesMore extents free (pages_in page old) pages (writes_made old) next.written) before now)
+  pub outside : IfOk answer (λ next. Changes (PutsAtRest extents free old) before now)
+  pub stopped : IfErr answer (λ why. Changes (FailsAtRest extents free old) before now)
 
 -- The writer is at a page: its own, or one that has just begun.
 pub record IsAtPage (free : List ℕ) (frames : List (List ℕ)) (table : SlotTable) (extents : List (ℕ × ℕ

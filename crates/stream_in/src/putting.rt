@@ -1,8 +1,7 @@
 ghost use Rattle.std.specs.Prelude.{◌≡◌, ◌⊎◌, ℕ, ◌+◌, ◌<◌, ◌≤◌, ◌^◌, List, Err, IsErr, IsErrAnd, IfOk, IfErr, OnOk};
-ghost use Rattle.std.specs.Prelude.{OnErr, IsTrue};
-ghost use Rattle.std.specs.Prelude.{false, length};
+ghost use Rattle.std.specs.Prelude.{OnErr, IsTrue, false, length};
 ghost use Rattle.definitions.specs.Disk.{Changes};
-ghost use Rattle.stream_in.specs.Outside.{FailsAtRest, IsAtRest, KeepsOutside, PutsAtRest};
+ghost use Rattle.stream_in.specs.Outside.{IsAtRest, KeepsOutside};
 ghost use Rattle.stream_in.specs.Moments.{ElapsesAlike, ElapsesOutside};
 ghost use Rattle.plain_machine.specs.declared.reply.Left.TheVariants as left;
 ghost use Rattle.plain_machine.specs.Image.{is_map_write, page_of_write};
@@ -11,8 +10,7 @@ ghost use Rattle.image_write.specs.Steps.{HasSlots, KeepsSlots, HasBegun};
 ghost use Rattle.image_write.specs.Answers.{Succeeds};
 ghost use Rattle.image_write.specs.Writing.{IsReady, IsWriting, BlocksBelow, writes_of};
 ghost use Rattle.stream_in.specs.Holding.{AreOfMap, MakesMore};
-ghost use Rattle.stream_in.specs.Putting.{is_map_next, IsPagePut, HasCounts, CanPut, HasPut, IsAtPage, Suffice};
-ghost use Rattle.stream_in.specs.Putting.{HasTooFew, pages_in, pages_written, writes_made};
+ghost use Rattle.stream_in.specs.Putting.{is_map_next, IsPagePut, HasCounts, CanPut, PutsFull, IsAtPage, HasTooFew};
 ghost use Rattle.stream_check.specs.Grammar.{all_pages};
 ghost use Rattle.definitions.specs.InfoPage.{info_of};
 ghost use Rattle.swap_slots.specs.Table.{free_in};
@@ -46,37 +44,17 @@ pub(crate) fn put_full<D: Disk>(
     requires put { (free : List ℕ)
         × CanPut free frames.old slots.now.table.now slots.now.map.now (D.block_count disk.old) page.now writer }
 
-    ensures put { (free : List ℕ) →
+    ensures puts { (free : List ℕ) →
         CanPut free frames.old slots.now.table.now slots.now.map.now (D.block_count disk.old) page.now writer →
-        IfOk result (λ next. HasPut free frames.new slots.now.table.now slots.now.map.now page.now writer next) }
-    ensures enough { (free : List ℕ) →
-        CanPut free frames.old slots.now.table.now slots.now.map.now (D.block_count disk.old) page.now writer →
-        IfOk result (λ next. Suffice free page.now writer) }
-    ensures too_few { (free : List ℕ) →
-        CanPut free frames.old slots.now.table.now slots.now.map.now (D.block_count disk.old) page.now writer →
-        (told need : ℕ) → result ≡ Err (stop.NoSlots told need) → HasTooFew free page.now writer told need }
+        PutsFull free frames.new slots.now.table.now slots.now.map.now page.now writer result (D.content disk.old)
+        (D.content disk.new) }
     ensures stops { IfErr result (λ why. IsOfPage why) }
-    ensures done { (free : List ℕ) (pages : ℕ → List ℕ) →
-        CanPut free frames.old slots.now.table.now slots.now.map.now (D.block_count disk.old) page.now writer
-        → AreOfMap slots.now.map.now free → page.now ≡ pages (pages_written writer)
-        → IfOk result (λ next. Changes (MakesMore slots.now.map.now free (pages_in page.now writer) pages
-        (writes_made writer)
-        next.written) (D.content disk.old) (D.content disk.new)) }
-    ensures outside { (free : List ℕ) →
-        CanPut free frames.old slots.now.table.now slots.now.map.now (D.block_count disk.old) page.now writer →
-        IfOk result (λ next. Changes (PutsAtRest slots.now.map.now free writer) (D.content disk.old)
-        (D.content disk.new)) }
-    ensures stopped { (free : List ℕ) →
-        CanPut free frames.old slots.now.table.now slots.now.map.now (D.block_count disk.old) page.now writer →
-        IfErr result (λ why. Changes (FailsAtRest slots.now.map.now free writer) (D.content disk.old)
-        (D.content disk.new)) }
     ensures time { IsTrue (D.tells_moments disk.old) → (free : List ℕ) →
         CanPut free frames.old slots.now.table.now slots.now.map.now (D.block_count disk.old) page.now writer →
         ElapsesOutside slots.now.map.now free (D.moment disk.old) (D.moment disk.new) (D.left_since disk.old)
         (D.left_since disk.new) }
 
     ensures called { HasCalled D.Disk (AtMost 3) (IsErrAnd result IsDiskStop) disk.old disk.new }
-
     ensures kept { KeepsSlots slots.now.table.now frames.old frames.new runs.old runs.new }
 {
     let begins = writer.is_none();
@@ -149,14 +127,13 @@ fn begin(
     requires slots { HasSlots frames.old slots.now.table.now runs.old }
     requires counts { HasCounts page.now }
     requires named { BlocksBelow slots.now.map.now (free_in frames.old slots.now.table.now)
-        (length (free_in frames.old slots.now.table.now))
-        (2 ^ 32) }
+        (length (free_in frames.old slots.now.table.now)) (2 ^ 32) }
 
     ensures begun { IfOk result (λ writer.
         HasBegun (info_of page.now) slots.now.map.now slots.now.table.now (free_in frames.old slots.now.table.now)
         frames.new writer) }
-    ensures enough { IfOk result (λ writer. all_pages page.now + 1026 ≤ length
-        (free_in frames.old slots.now.table.now)) }
+    ensures enough { IfOk result (λ writer.
+        all_pages page.now + 1026 ≤ length (free_in frames.old slots.now.table.now)) }
     ensures too_few { IfErr result (λ why. why ≡ stop.NoSlots (length (free_in frames.old slots.now.table.now))
         (all_pages page.now + 1026)) }
     ensures fewer { IfErr result (λ why. length (free_in frames.old slots.now.table.now) < all_pages page.now + 1026) }

@@ -16,11 +16,19 @@ use Rattle.stream_in.proofs.putting.put_full.Goals as goal
 on_same_disk : (w : Writing) (free : List ℕ) (before now : ℕ) → now ≡ before → BlocksBelow w.extents free (writes_of w.info) before → BlocksBelow w.extents free (writes_of w.info) now
 on_same_disk w free before now same h = subst (BlocksBelow w.extents free (writes_of w.info)) (sym same) h
 
-pub returns-in_err-writer-clause-too_few : goal.returns-in_err-writer-clause-too_few
-returns-in_err-writer-clause-too_few g c = λ free can told need is.
-    let p = err_from_is_err_and c.from_residual.result c.from_residual.ensures.1 in
-    let why : c.in_err-writer.field-0.0 ≡ stop.NoSlots told need = err_same c.from_residual.result _ _ (p.1 ∙ ap Err p.2) is in
-    c.at_page.ensures.too_few free (g.D.Disk.block_count c.args.disk.now) can told need (c.in_err-writer.was ∙ ap Err why)
+pub returns-in_err-writer-clause-puts : goal.returns-in_err-writer-clause-puts
+returns-in_err-writer-clause-puts g c = λ free can. record {
+  put = search rules;
+  enough = search rules;
+  too_few = λ told need is.
+      let p = err_from_is_err_and c.from_residual.result c.from_residual.ensures.1 in
+      let why : c.in_err-writer.field-0.0 ≡ stop.NoSlots told need = err_same c.from_residual.result _ _ (p.1 ∙ ap Err p.2) is in
+      c.at_page.ensures.too_few free (g.D.Disk.block_count c.args.disk.now) can told need (c.in_err-writer.was ∙ ap Err why);
+  done = search rules;
+  outside = search rules;
+  stopped =
+      on_any_err c.from_residual.result _ (told_unwritten c.args.slots.now.map.now free c.args.writer (g.D.Disk.content c.args.disk.now) (g.D.Disk.content c.args.disk.now) refl);
+}
 
 pub put_page-requires-clause-writing : goal.put_page-requires-clause-writing
 put_page-requires-clause-writing g c =
@@ -33,64 +41,98 @@ put_page-requires-clause-page g c =
     let at = c.in_ok-writer.ensures.ready c.requires.put.0 (g.D.Disk.block_count c.args.disk.now) c.requires.put.1 in
     at.at_page
 
-pub returns-in-More-clause-put : goal.returns-in-More-clause-put
-returns-in-More-clause-put g c = λ free can.
-    let blocks = g.D.Disk.block_count c.args.disk.now in
-    let at = c.in_ok-writer.ensures.ready free blocks can in
-    has_put free c.at_page.new.frames c.put_page.new.frames c.args.slots.now.table.now c.args.slots.now.map.now blocks c.args.page.now c.args.writer c.in_ok-writer.writer c.put_page.new.writer at
-    (c.in-More.ensures.put free at.writing tt)
+pub returns-in-More-clause-puts : goal.returns-in-More-clause-puts
+returns-in-More-clause-puts g c = λ free can. record {
+  put =
+      let blocks = g.D.Disk.block_count c.args.disk.now in
+      let at = c.in_ok-writer.ensures.ready free blocks can in
+      has_put free c.at_page.new.frames c.put_page.new.frames c.args.slots.now.table.now c.args.slots.now.map.now blocks c.args.page.now c.args.writer c.in_ok-writer.writer c.put_page.new.writer at
+      (c.in-More.ensures.put free at.writing tt);
+  enough =
+      let at = c.in_ok-writer.ensures.ready free (g.D.Disk.block_count c.args.disk.now) can in at.enough;
+  too_few = search rules;
+  done = λ pages of is.
+      let before = g.D.Disk.block_count c.args.disk.now in
+      let at = c.in_ok-writer.ensures.ready free before can in
+      let w = c.in_ok-writer.writer in
+      let P : List (ℕ × ℕ × ℕ) → Type 0 = λ x. AreOfMap x free in
+      let a = g.D.Disk.content c.args.disk.now in
+      let b = g.D.Disk.content c.at_rest.new.disk in
+      let d = g.D.Disk.content c.put_page.new.disk in
+      let on_disk = on_same_disk w free before (g.D.Disk.block_count c.at_rest.new.disk) c.at_rest.ensures.called.blocks at.on_disk in
+      told_made c.args.slots.now.map.now free (pages_in c.args.page.now c.args.writer) pages (writes_made c.args.writer) c.put_page.new.writer.written c.is_none-begins.result a b d c.in_ok-at_rest.ensures.rested
+      (more_same c.args.slots.now.map.now w.extents free (pages_in c.args.page.now c.args.writer) w.info.pages pages (writes_made c.args.writer) w.written c.put_page.new.writer.written c.put_page.new.writer.written
+      b d at.extents_are at.pages at.made refl
+      (c.in-More.ensures.done free pages at.writing (subst P (sym at.extents_are) of) on_disk (is ∙ ap pages (sym at.count)) tt));
+  outside =
+      let at = c.in_ok-writer.ensures.ready free (g.D.Disk.block_count c.args.disk.now) can in
+      let a = g.D.Disk.content c.args.disk.now in
+      let b = g.D.Disk.content c.at_rest.new.disk in
+      let d = g.D.Disk.content c.put_page.new.disk in
+      told_puts c.args.slots.now.map.now free c.args.writer c.is_none-begins.result a b d (is_first c.args.writer c.is_none-begins.result c.is_none-begins.ensures) c.in_ok-at_rest.ensures.rested
+      (told_same c.args.slots.now.map.now c.in_ok-writer.writer.extents free b d at.extents_are (c.put_page.ensures.outside free at.writing));
+  stopped = search rules;
+}
 
-pub returns-in-More-clause-enough : goal.returns-in-More-clause-enough
-returns-in-More-clause-enough g c = λ free can.
-    let at = c.in_ok-writer.ensures.ready free (g.D.Disk.block_count c.args.disk.now) can in at.enough
+pub returns-in-Done-clause-puts : goal.returns-in-Done-clause-puts
+returns-in-Done-clause-puts g c = λ free can. record {
+  put =
+      let blocks = g.D.Disk.block_count c.args.disk.now in
+      let at = c.in_ok-writer.ensures.ready free blocks can in
+      has_put free c.at_page.new.frames c.put_page.new.frames c.args.slots.now.table.now c.args.slots.now.map.now blocks c.args.page.now c.args.writer c.in_ok-writer.writer c.put_page.new.writer at
+      (c.in-Done.ensures.put free at.writing tt);
+  enough =
+      let at = c.in_ok-writer.ensures.ready free (g.D.Disk.block_count c.args.disk.now) can in at.enough;
+  too_few = search rules;
+  done = λ pages of is.
+      let before = g.D.Disk.block_count c.args.disk.now in
+      let at = c.in_ok-writer.ensures.ready free before can in
+      let w = c.in_ok-writer.writer in
+      let P : List (ℕ × ℕ × ℕ) → Type 0 = λ x. AreOfMap x free in
+      let a = g.D.Disk.content c.args.disk.now in
+      let b = g.D.Disk.content c.at_rest.new.disk in
+      let d = g.D.Disk.content c.put_page.new.disk in
+      let on_disk = on_same_disk w free before (g.D.Disk.block_count c.at_rest.new.disk) c.at_rest.ensures.called.blocks at.on_disk in
+      told_made c.args.slots.now.map.now free (pages_in c.args.page.now c.args.writer) pages (writes_made c.args.writer) c.put_page.new.writer.written c.is_none-begins.result a b d c.in_ok-at_rest.ensures.rested
+      (more_same c.args.slots.now.map.now w.extents free (pages_in c.args.page.now c.args.writer) w.info.pages pages (writes_made c.args.writer) w.written c.put_page.new.writer.written c.put_page.new.writer.written
+      b d at.extents_are at.pages at.made refl
+      (c.in-Done.ensures.done free pages at.writing (subst P (sym at.extents_are) of) on_disk (is ∙ ap pages (sym at.count)) tt));
+  outside =
+      let at = c.in_ok-writer.ensures.ready free (g.D.Disk.block_count c.args.disk.now) can in
+      let a = g.D.Disk.content c.args.disk.now in
+      let b = g.D.Disk.content c.at_rest.new.disk in
+      let d = g.D.Disk.content c.put_page.new.disk in
+      told_puts c.args.slots.now.map.now free c.args.writer c.is_none-begins.result a b d (is_first c.args.writer c.is_none-begins.result c.is_none-begins.ensures) c.in_ok-at_rest.ensures.rested
+      (told_same c.args.slots.now.map.now c.in_ok-writer.writer.extents free b d at.extents_are (c.put_page.ensures.outside free at.writing));
+  stopped = search rules;
+}
 
-pub returns-in-Done-clause-put : goal.returns-in-Done-clause-put
-returns-in-Done-clause-put g c = λ free can.
-    let blocks = g.D.Disk.block_count c.args.disk.now in
-    let at = c.in_ok-writer.ensures.ready free blocks can in
-    has_put free c.at_page.new.frames c.put_page.new.frames c.args.slots.now.table.now c.args.slots.now.map.now blocks c.args.page.now c.args.writer c.in_ok-writer.writer c.put_page.new.writer at
-    (c.in-Done.ensures.put free at.writing tt)
+pub returns-in_err-at_rest-clause-puts : goal.returns-in_err-at_rest-clause-puts
+returns-in_err-at_rest-clause-puts g c = λ free can. record {
+  put = search rules;
+  enough = search rules;
+  too_few = search rules;
+  done = search rules;
+  outside = search rules;
+  stopped =
+      on_any_err c.from_residual-in_err-at_rest.result _ (told_unwritten c.args.slots.now.map.now free c.args.writer (g.D.Disk.content c.args.disk.now) (g.D.Disk.content c.at_rest.new.disk) c.in_err-at_rest.ensures.same);
+}
 
-pub returns-in-Done-clause-enough : goal.returns-in-Done-clause-enough
-returns-in-Done-clause-enough g c = λ free can.
-    let at = c.in_ok-writer.ensures.ready free (g.D.Disk.block_count c.args.disk.now) can in at.enough
-
--- The other blocks.
-
-pub returns-in_err-writer-clause-stopped : goal.returns-in_err-writer-clause-stopped
-returns-in_err-writer-clause-stopped g c = λ free can.
-    on_any_err c.from_residual.result _ (told_unwritten c.args.slots.now.map.now free c.args.writer (g.D.Disk.content c.args.disk.now) (g.D.Disk.content c.args.disk.now) refl)
-
-pub returns-in_err-at_rest-clause-stopped : goal.returns-in_err-at_rest-clause-stopped
-returns-in_err-at_rest-clause-stopped g c = λ free can.
-    on_any_err c.from_residual-in_err-at_rest.result _ (told_unwritten c.args.slots.now.map.now free c.args.writer (g.D.Disk.content c.args.disk.now) (g.D.Disk.content c.at_rest.new.disk) c.in_err-at_rest.ensures.same)
-
-pub returns-in-More-clause-outside : goal.returns-in-More-clause-outside
-returns-in-More-clause-outside g c = λ free can.
-    let at = c.in_ok-writer.ensures.ready free (g.D.Disk.block_count c.args.disk.now) can in
-    let a = g.D.Disk.content c.args.disk.now in
-    let b = g.D.Disk.content c.at_rest.new.disk in
-    let d = g.D.Disk.content c.put_page.new.disk in
-    told_puts c.args.slots.now.map.now free c.args.writer c.is_none-begins.result a b d (is_first c.args.writer c.is_none-begins.result c.is_none-begins.ensures) c.in_ok-at_rest.ensures.rested
-    (told_same c.args.slots.now.map.now c.in_ok-writer.writer.extents free b d at.extents_are (c.put_page.ensures.outside free at.writing))
-
-pub returns-in-Done-clause-outside : goal.returns-in-Done-clause-outside
-returns-in-Done-clause-outside g c = λ free can.
-    let at = c.in_ok-writer.ensures.ready free (g.D.Disk.block_count c.args.disk.now) can in
-    let a = g.D.Disk.content c.args.disk.now in
-    let b = g.D.Disk.content c.at_rest.new.disk in
-    let d = g.D.Disk.content c.put_page.new.disk in
-    told_puts c.args.slots.now.map.now free c.args.writer c.is_none-begins.result a b d (is_first c.args.writer c.is_none-begins.result c.is_none-begins.ensures) c.in_ok-at_rest.ensures.rested
-    (told_same c.args.slots.now.map.now c.in_ok-writer.writer.extents free b d at.extents_are (c.put_page.ensures.outside free at.writing))
-
-pub returns-in-Fault-clause-stopped : goal.returns-in-Fault-clause-stopped
-returns-in-Fault-clause-stopped g c = λ free can.
-    let at = c.in_ok-writer.ensures.ready free (g.D.Disk.block_count c.args.disk.now) can in
-    let a = g.D.Disk.content c.args.disk.now in
-    let b = g.D.Disk.content c.at_rest.new.disk in
-    let d = g.D.Disk.content c.put_page.new.disk in
-    told_fails c.args.slots.now.map.now free c.args.writer a d (told_puts c.args.slots.now.map.now free c.args.writer c.is_none-begins.result a b d (is_first c.args.writer c.is_none-begins.result c.is_none-begins.ensures) c.in_ok-at_rest.ensures.rested
-    (told_same c.args.slots.now.map.now c.in_ok-writer.writer.extents free b d at.extents_are (c.put_page.ensures.outside free at.writing)))
+pub returns-in-Fault-clause-puts : goal.returns-in-Fault-clause-puts
+returns-in-Fault-clause-puts g c = λ free can. record {
+  put = search rules;
+  enough = search rules;
+  too_few = search rules;
+  done = search rules;
+  outside = search rules;
+  stopped =
+      let at = c.in_ok-writer.ensures.ready free (g.D.Disk.block_count c.args.disk.now) can in
+      let a = g.D.Disk.content c.args.disk.now in
+      let b = g.D.Disk.content c.at_rest.new.disk in
+      let d = g.D.Disk.content c.put_page.new.disk in
+      told_fails c.args.slots.now.map.now free c.args.writer a d (told_puts c.args.slots.now.map.now free c.args.writer c.is_none-begins.result a b d (is_first c.args.writer c.is_none-begins.result c.is_none-begins.ensures) c.in_ok-at_rest.ensures.rested
+      (told_same c.args.slots.now.map.now c.in_ok-writer.writer.extents free b d at.extents_are (c.put_page.ensures.outside free at.writing)));
+}
 
 -- How often the disk is called.
 
@@ -138,38 +180,6 @@ returns-in-Fault-clause-called g c = record {
   blocks = search rules;
   telling = search rules;
 }
-
--- What is on the disk.
-
-pub returns-in-More-clause-done : goal.returns-in-More-clause-done
-returns-in-More-clause-done g c = λ free pages can of is.
-    let before = g.D.Disk.block_count c.args.disk.now in
-    let at = c.in_ok-writer.ensures.ready free before can in
-    let w = c.in_ok-writer.writer in
-    let P : List (ℕ × ℕ × ℕ) → Type 0 = λ x. AreOfMap x free in
-    let a = g.D.Disk.content c.args.disk.now in
-    let b = g.D.Disk.content c.at_rest.new.disk in
-    let d = g.D.Disk.content c.put_page.new.disk in
-    let on_disk = on_same_disk w free before (g.D.Disk.block_count c.at_rest.new.disk) c.at_rest.ensures.called.blocks at.on_disk in
-    told_made c.args.slots.now.map.now free (pages_in c.args.page.now c.args.writer) pages (writes_made c.args.writer) c.put_page.new.writer.written c.is_none-begins.result a b d c.in_ok-at_rest.ensures.rested
-    (more_same c.args.slots.now.map.now w.extents free (pages_in c.args.page.now c.args.writer) w.info.pages pages (writes_made c.args.writer) w.written c.put_page.new.writer.written c.put_page.new.writer.written
-    b d at.extents_are at.pages at.made refl
-    (c.in-More.ensures.done free pages at.writing (subst P (sym at.extents_are) of) on_disk (is ∙ ap pages (sym at.count)) tt))
-
-pub returns-in-Done-clause-done : goal.returns-in-Done-clause-done
-returns-in-Done-clause-done g c = λ free pages can of is.
-    let before = g.D.Disk.block_count c.args.disk.now in
-    let at = c.in_ok-writer.ensures.ready free before can in
-    let w = c.in_ok-writer.writer in
-    let P : List (ℕ × ℕ × ℕ) → Type 0 = λ x. AreOfMap x free in
-    let a = g.D.Disk.content c.args.disk.now in
-    let b = g.D.Disk.content c.at_rest.new.disk in
-    let d = g.D.Disk.content c.put_page.new.disk in
-    let on_disk = on_same_disk w free before (g.D.Disk.block_count c.at_rest.new.disk) c.at_rest.ensures.called.blocks at.on_disk in
-    told_made c.args.slots.now.map.now free (pages_in c.args.page.now c.args.writer) pages (writes_made c.args.writer) c.put_page.new.writer.written c.is_none-begins.result a b d c.in_ok-at_rest.ensures.rested
-    (more_same c.args.slots.now.map.now w.extents free (pages_in c.args.page.now c.args.writer) w.info.pages pages (writes_made c.args.writer) w.written c.put_page.new.writer.written c.put_page.new.writer.written
-    b d at.extents_are at.pages at.made refl
-    (c.in-Done.ensures.done free pages at.writing (subst P (sym at.extents_are) of) on_disk (is ∙ ap pages (sym at.count)) tt))
 
 -- Moments.
 

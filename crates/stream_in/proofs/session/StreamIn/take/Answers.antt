@@ -102,7 +102,7 @@ returns-in_err-writer-clause-answer g c = record {
       let p = err_from_is_err_and c.from_residual-in_err-writer.result c.from_residual-in_err-writer.ensures.1 in
       let why : c.in_err-writer.field-0.0 ≡ stop.NoSlots told need = err_same c.from_residual-in_err-writer.result _ _ (p.1 ∙ ap Err p.2) is in
       let R : Option Writing → Type 0 = λ w. HasTooFew free c.from_bytes-page.result w told need in
-      let few = subst R c.take-2.ensures.value (c.put_full.ensures.too_few free can told need (c.in_err-writer.was ∙ ap Err why)) in
+      let few = subst R c.take-2.ensures.value ((c.put_full.ensures.puts free can).too_few told need (c.in_err-writer.was ∙ ap Err why)) in
       too_few free bs c.args.part.now c.from_bytes-page.result s.frames s.table s.map s.writer told need full fed.output few;
 }
 
@@ -123,8 +123,8 @@ returns-clause-answer g c = record {
       (can_put free bs c.args.part.now c.from_bytes-page.result s.frames s.table s.map s.blocks s.writer fed.few fed.count fed.on_disk full fed.output)) in
       let R : Option Writing → Type 0 = λ w. HasPut free c.put_full.new.frames s.table s.map c.from_bytes-page.result w c.in_ok-writer.writer in
       let S : Option Writing → Type 0 = λ w. Suffice free c.from_bytes-page.result w in
-      let put = subst R c.take-2.ensures.value (c.in_ok-writer.ensures.put free can) in
-      let enough = subst S c.take-2.ensures.value (c.in_ok-writer.ensures.enough free can) in
+      let put = subst R c.take-2.ensures.value (c.in_ok-writer.ensures.puts free can).put in
+      let enough = subst S c.take-2.ensures.value (c.in_ok-writer.ensures.puts free can).enough in
       record {
         taken = c.in_ok-take.ensures.taken bs fed.taken;
         going = fed.going;
@@ -187,7 +187,7 @@ returns-in_err-writer-clause-writes g c = record {
       let a = g.D.Disk.content c.args.disk.now in
       let b = g.D.Disk.content c.put_full.new.disk in
       let R : Option Writing → Type 0 = λ w. Changes (FailsAtRest s.map free w) a b in
-      on_err_any c.from_residual-in_err-writer.result _ (told_stop free bs s.frames s.table s.map s.writer a b fed.output (subst R c.take-2.ensures.value (c.in_err-writer.ensures.stopped free can)));
+      on_err_any c.from_residual-in_err-writer.result _ (told_stop free bs s.frames s.table s.map s.writer a b fed.output (subst R c.take-2.ensures.value (c.in_err-writer.ensures.puts free can).stopped));
 }
 
 pub returns-clause-writes : goal.returns-clause-writes
@@ -207,8 +207,8 @@ returns-clause-writes g c = record {
       (can_put free bs c.args.part.now c.from_bytes-page.result s.frames s.table s.map s.blocks s.writer fed.few fed.count fed.on_disk full fed.output)) in
       let R : Option Writing → Type 0 = λ w. HasPut free c.put_full.new.frames s.table s.map c.from_bytes-page.result w c.in_ok-writer.writer in
       let S : Option Writing → Type 0 = λ w. Suffice free c.from_bytes-page.result w in
-      let put = subst R c.take-2.ensures.value (c.in_ok-writer.ensures.put free can) in
-      let enough = subst S c.take-2.ensures.value (c.in_ok-writer.ensures.enough free can) in
+      let put = subst R c.take-2.ensures.value (c.in_ok-writer.ensures.puts free can).put in
+      let enough = subst S c.take-2.ensures.value (c.in_ok-writer.ensures.puts free can).enough in
       let begun' = has_output free bs c.args.part.now c.from_bytes-page.result s.frames c.put_full.new.frames s.table s.map s.writer c.in_ok-writer.writer full fed.output put enough in
       let a = g.D.Disk.content c.args.disk.now in
       let b = g.D.Disk.content c.put_full.new.disk in
@@ -217,7 +217,7 @@ returns-clause-writes g c = record {
       next_page bs c.args.part.now c.from_bytes-page.result full ∙ ap pages (page_count free bs c.args.part.now c.from_bytes-page.result s.frames s.table s.map s.writer full fed.output) in
       let T : Option Writing → Type 0 = λ w. c.from_bytes-page.result ≡ pages (pages_written w) in
       let U : Option Writing → Type 0 = λ w. Changes (MakesMore s.map free (pages_in c.from_bytes-page.result w) pages (writes_made w) c.in_ok-writer.writer.written) a b in
-      let made = subst U c.take-2.ensures.value (c.in_ok-writer.ensures.done free pages can of (subst T (sym c.take-2.ensures.value) next)) in
+      let made = subst U c.take-2.ensures.value ((c.in_ok-writer.ensures.puts free can).done pages of (subst T (sym c.take-2.ensures.value) next)) in
       changes_as (MakesMore s.map free (pages_in c.from_bytes-page.result s.writer) pages (writes_made s.writer) c.in_ok-writer.writer.written) (WritesOn s.map free bs c.args.part.now) a b
       (written_full free bs c.args.part.now c.from_bytes-page.result s.frames c.put_full.new.frames s.table s.map s.writer c.in_ok-writer.writer full fed.output begun') made;
   outside = λ free bs fed.
@@ -236,7 +236,7 @@ returns-clause-writes g c = record {
       let a = g.D.Disk.content c.args.disk.now in
       let b = g.D.Disk.content c.put_full.new.disk in
       let R : Option Writing → Type 0 = λ w. Changes (PutsAtRest s.map free w) a b in
-      told_full free bs c.args.part.now s.frames s.table s.map s.writer a b (omega (arith, length-append bs c.args.part.now)) fed.output (subst R c.take-2.ensures.value (c.in_ok-writer.ensures.outside free can));
+      told_full free bs c.args.part.now s.frames s.table s.map s.writer a b (omega (arith, length-append bs c.args.part.now)) fed.output (subst R c.take-2.ensures.value (c.in_ok-writer.ensures.puts free can).outside);
   stopped = search rules;
 }
 
