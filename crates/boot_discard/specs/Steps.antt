@@ -6,7 +6,8 @@ use Rattle.boot_discard.specs.declared.step.Left.TheVariants.{Same, Unsure}
 use Rattle.boot_discard.specs.declared.step.Step.{Step}
 use Rattle.boot_discard.specs.declared.step.Step.TheVariants.{Read, Write, Sync, Discarded, NoImage, NoOriginal, Failed}
 
--- Behind the read of the header block, which gave the page `old`: it is written taken back just where it is marked, and isn't any more then.
+-- Behind the read of the header block, which gave the page `old`: it is written taken back just where it is marked, and
+-- isn't any more then.
 abbrev pub IsBehindRead : ℕ → (old new : List ℕ) → Step → Type 0
 IsBehindRead block old new NoImage = (IsMarked old → ⊥) × (new ≡ old)
 IsBehindRead block old new NoOriginal = IsMarked old × (IsMarked (taken_back old) × (new ≡ old))

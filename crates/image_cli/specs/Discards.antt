@@ -16,7 +16,8 @@ use Rattle.image_discard.specs.declared.discarding.Fault.TheVariants as fault
 abbrev pub discard_told : Result Discarded Fault → RunResult
 discard_told (Ok discarded.Done) = record { status = Done; out = line (codes "discarded"); note = [] }
 discard_told (Ok discarded.NoImage) = record { status = Refused; out = line (codes "no image"); note = [] }
-discard_told (Ok discarded.NoOriginal) = record { status = Refused; out = line (codes "no original signature"); note = [] }
+discard_told (Ok discarded.NoOriginal) =
+    record { status = Refused; out = line (codes "no original signature"); note = [] }
 discard_told (Err fault.Read) = record { status = Device; out = []; note = line (codes "read fault same") }
 discard_told (Err fault.Write) = record { status = Device; out = []; note = line (codes "write fault unsure") }
 discard_told (Err fault.Sync) = record { status = Device; out = []; note = line (codes "sync fault unsure") }
@@ -26,7 +27,8 @@ abbrev pub Leaves : (header blocks : ℕ) → (old new : Option Content) → Res
 Leaves header blocks old new (Ok end) = Ends header blocks old new end
 Leaves header blocks old new (Err fault) = Fails header old new fault
 
-abbrev pub Discards : (header blocks : ℕ) → (old new : Option Content) → Status → (out out' note note' : SinkView) → Type 0
+abbrev pub Discards : (header blocks : ℕ) → (old new : Option Content) → Status → (out out' note note' : SinkView) →
+    Type 0
 Discards header blocks old new status out out' note note' =
     (outcome : Result Discarded Fault) ×
     (Leaves header blocks old new outcome × IsTold (discard_told outcome) status out out' note note')

@@ -7,8 +7,10 @@ use Rattle.image_check.specs.declared.finding.Finding.{Finding}
 use Rattle.image_check.specs.declared.report.Printer.{Printer}
 
 abbrev pub printer_view : {O : Type 0} → sink.Ghosts O → Printer O → Told
-printer_view told p = record { text = told.taken p.sink; count = p.count; failed = p.failed; faults = told.faults p.sink }
+printer_view told p =
+    record { text = told.taken p.sink; count = p.count; failed = p.failed; faults = told.faults p.sink }
 
 -- of these findings, since its sink was so and it had been told of nothing
 abbrev pub IsSoFar : List Finding → SinkView → Told → Type 0
-IsSoFar found start told = Tells found (record { text = start.taken; count = 0; failed = false; faults = start.faults }) told
+IsSoFar found start told =
+    Tells found (record { text = start.taken; count = 0; failed = false; faults = start.faults }) told

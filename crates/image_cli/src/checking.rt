@@ -32,7 +32,8 @@ pub fn check<D: Disk, O: Sink, N: Sink>(
 ) -> Status
     requires none { out.old.count ≡ 0 }
     requires sound { out.old.failed ≡ false }
-    ensures outcome { Checks (D.content disk.old) (D.block_count disk.old) header (D.faults disk.old) (D.faults disk.new) result
+    ensures outcome { Checks (D.content disk.old) (D.block_count disk.old) header (D.faults disk.old)
+        (D.faults disk.new) result
         (sink_view O.Sink out.old.sink)
         (sink_view O.Sink out.new.sink)
         (sink_view N.Sink note.old)
@@ -53,8 +54,8 @@ pub fn check<D: Disk, O: Sink, N: Sink>(
     }
 }
 
-/// Prints the same as one JSON object, in a line: the findings, whether there is an image, and whether it is whole. The status is as
-/// that of `check`. The disk is only read.
+/// Prints the same as one JSON object, in a line: the findings, whether there is an image, and whether it is whole. The
+/// status is as that of `check`. The disk is only read.
 pub fn check_json<D: Disk, O: Sink, N: Sink>(
     alloc: Global,
     disk: &mut D,
@@ -143,7 +144,8 @@ pub fn sum_up<O: Sink, N: Sink>(out: &mut Printer<O>, note: &mut N) -> Status
         (sink_view N.Sink note.old)
         (sink_view N.Sink note.new) }
     ensures stream { (found : List Finding) (start : SinkView) → IsSoFar found start (printer_view O.Sink out.old) →
-        result ≡ Status.Stream → HasRisen start.faults (O.faults out.new.sink) ⊎ HasRisen (N.faults note.old) (N.faults note.new) }
+        result ≡ Status.Stream → HasRisen start.faults (O.faults out.new.sink)
+        ⊎ HasRisen (N.faults note.old) (N.faults note.new) }
     ensures device { result ≢ Status.Device }
     ensures words { result ≢ Status.Words }
 {

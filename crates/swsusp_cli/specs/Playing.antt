@@ -24,9 +24,9 @@ pub record Played (old new : World) (events : List Event) (now : Option disk.Con
   pub of_replay : IsOfReplay b
   pub unwritten : 0 < (hardware_of old).slots → (b : ℕ) → IsNoSlot (hardware_of old) b → LeavesBlock b c c'
 
--- Each event gave a reply, each step made at most one call of the disk, which was asked for just what the events ask for,
--- its count of faults allows for the replies, and they are a run from every content and state of a replay that the world
--- stood for.
+-- Each event gave a reply, each step made at most one call of the disk, which was asked for just what the events ask
+-- for, its count of faults allows for the replies, and they are a run from every content and state of a replay that the
+-- world stood for.
 pub record HasPlayed (old new : World) (events : List Event) (replies : List Reply)
     (before now : DiskView) : Type 0 where
   pub size : length replies ≡ length events

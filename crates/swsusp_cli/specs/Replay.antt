@@ -77,9 +77,9 @@ pub record IsRun (x x' : DiskView) (script : ScriptValue) (events : List Event) 
   pub stands : Stands script.hardware shown held end
   pub unwritten : (b : ℕ) → IsNoSlot script.hardware b → LeavesBlock b c held
 
--- Each event gave a reply, each step made at most one call of the disk after the formatting's two, the disk was asked for
--- just what its events ask for, its count of faults allows for the replies, and where it tells its content the replies
--- are a run.
+-- Each event gave a reply, each step made at most one call of the disk after the formatting's two, the disk was asked
+-- for just what its events ask for, its count of faults allows for the replies, and where it tells its content the
+-- replies are a run.
 pub record AreReplies (x x' : DiskView) (script : ScriptValue) (events : List Event)
     (replies : List Reply) : Type 0 where
   pub size : length replies ≡ length events

@@ -46,7 +46,9 @@ format_by true = SkipZeros
 
 abbrev pub hibernate_in : List Row → Option Asked
 hibernate_in rows =
-    option_and_then (λ swap. option_map (λ skips. hibernate (format_by skips) (number_at 64 (codes "image-size") rows) swap) (flag_at (codes "skip-zeros") rows))
+    option_and_then (λ swap. option_map
+    (λ skips. hibernate (format_by skips) (number_at 64 (codes "image-size") rows) swap)
+    (flag_at (codes "skip-zeros") rows))
     (swap_in rows)
 
 abbrev pub check_by : Bool → IdentCheck
