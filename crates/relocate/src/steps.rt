@@ -32,13 +32,6 @@ impl<L: Ledger> Steps<L> {
         Steps { book, share }
     }
 
-    /// Counts one page that is copied.
-    pub fn tick(&mut self)
-        ensures { self.new ≡ self.old + 1 }
-    {
-        self.count(1);
-    }
-
     /// Counts pages that are copied.
     pub fn count(&mut self, pages: u32)
         ensures { self.new ≡ self.old + pages }

@@ -6,8 +6,8 @@ use Rattle.stream_check.specs.declared.fault.StreamFault.{StreamFault}
 use Rattle.stream_check.specs.declared.fault.Kind.{Kind}
 use Rattle.stream_check.specs.declared.fault.Kind.TheVariants.{Counts, Pfn, Order, End, Extra, Short}
 use Rattle.stream_check.specs.Grammar.{image_pages, all_pages, place, number, words, fault, are_counts, counts_fault, least_number, kind_of_word, kind_of_number, kind_of_end, fault_at, word_fault, extra_fault, first_below, first_fault}
-use Rattle.stream_check.specs.Faults.{HasCounts, HasWord, HasFault, IsFirst, HasNoFault}
-use Rattle.stream_check.proofs.Steps.{sound_from, counts_from, counts_none, first_fault-early, first_fault-late, or_else-some, or_else-parts, true_at_some}
+use Rattle.stream_check.specs.Faults.{HasCounts, HasWord, HasFault, IsFirst, HasNoFault, StaysFirst}
+use Rattle.stream_check.proofs.Steps.{sound_from, counts_from, counts_none, first_fault-early, first_fault-late, first_fault-stays, or_else-some, or_else-parts, true_at_some}
 
 -- where a first answer stands
 pub record IsPlace {A : Type 0} (f : ℕ → Option A) (n : ℕ) (x : A) (j : ℕ) : Type 0 where
@@ -223,3 +223,7 @@ has_no_fault bs none kind at h =
       | inl (i, e, lt, bad) ↦ bad (below_none (word_fault bs) (min (image_pages bs + 1) (words bs)) s.numbers i lt)
       | inr (e, lt) ↦ omega (arith, s.within)
     ]
+
+-- and it stays the first, whatever bytes come after
+pub stays_first : (bs : List ℕ) → StaysFirst bs
+stays_first bs fault more found = first_fault-stays bs more fault found

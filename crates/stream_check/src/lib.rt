@@ -5,9 +5,7 @@
 
 mod checker;
 mod fault;
-mod laws;
 mod taking;
 
 pub use checker::Checker;
 pub use fault::{Kind, StreamFault};
-pub use laws::{is_first, stays_first};
