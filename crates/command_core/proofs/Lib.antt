@@ -1,11 +1,3 @@
-pub mod Leaving
-pub mod Traces
-pub mod Points
+pub mod Beginning
+mod Counting
 pub mod Runs
-pub mod Begun
-pub mod Booting
-pub mod Hibernating
-pub mod Resuming
-pub mod Saved
-pub mod Loaded
-pub mod Crashes

@@ -1,12 +1,13 @@
 -- The runs of the commands, from their parts.
-use Rattle.std.proofs.Common.{◌≡◌, ◌⊎◌, inl, inr, ◌≤◌, ◌<◌, ℕ, suc, true, false, List, [], ◌∷◌, ◌++◌, length, length-append, ◌+◌, map, Option, Some, None, Ok, Err, refl, sym, ap, ◌∙◌, subst, arith}
+use Rattle.std.proofs.Common.{◌≡◌, ◌⊎◌, inl, inr, ◌↔◌, ◌≤◌, ℕ, suc, Bool, true, false, List, [], ◌∷◌, ◌++◌, length, length-append, ◌+◌, Option, Some, None, Ok, Err, refl, sym, ap, ◌∙◌, subst, arith}
 use Rattle.std.specs.Prelude.{IsTrue}
+use Rattle.std.proofs.lemmas.Bool.{false≢true}
 use Rattle.std.proofs.lemmas.List.{map-append}
+use Rattle.protocol_laws.specs.Rows.{TellsNewFault}
 use Rattle.std.specs.Option.{IfSome}
 use Rattle.page_core.specs.declared.format.Format.{Format}
 use Rattle.definitions.specs.Disk as disk
-use Rattle.plain_machine.specs.Chain.{Marked}
-use Rattle.plain_machine.specs.UsableArea.{HasOriginal}
+use Rattle.definitions.proofs.DiskLaws.{IsImage-settled}
 use Rattle.plain_machine.specs.State.{off}
 use Rattle.plain_machine.specs.declared.event.Actor.TheVariants as actor
 use Rattle.plain_machine.specs.declared.event.BootFrom.TheVariants.{Kept}
@@ -24,10 +25,10 @@ use Rattle.world_runs.specs.Turns.{steps_of}
 use Rattle.world_runs.proofs.Counted.{steps_append}
 use Rattle.world_runs.proofs.Playing.{played_none, played_then}
 use Rattle.command_core.specs.Runs.{goes_on, held_at_first, is_booted}
-use Rattle.command_core.specs.Parts.{Boots, Finishes, Starts}
-use Rattle.command_core.specs.Runs.{AreStepped, GoOn, IsAsked, IsHibernation, IsReady, IsResumption, Ran, RanAs, RunsOver, boot_events, core_steps, last_reply, shrink_events}
+use Rattle.command_core.specs.Parts.{Boots, Finishes, GoesOn, Starts}
+use Rattle.command_core.specs.Runs.{GoOn, HasNewFault, IsHibernation, IsReady, IsResumption, Ran, boot_events, core_steps, last_reply, shrink_events}
 use Rattle.command_core.specs.declared.ending.Ended.{Ended}
-use Rattle.command_core.proofs.Begun.{new_stands}
+use Rattle.command_core.proofs.Beginning.{new_stands}
 
 -- Steps, and one more.
 
@@ -42,32 +43,66 @@ goes_more r (q ∷ rest) s (first, goes) last = (first, goes_more q rest s goes 
 abbrev core_step : Reply → Event
 core_step r = event.Step actor.Core
 
-pub finishes_first : {X : Type 0} (D : Ghosts X) (w : World) (begun : Reply) (x : X) → (f : Finishes D w w begun begun x x) × (length f.0 ≡ 0)
-finishes_first D w begun x = (([], record { last_is = refl; goes = tt; few = omega arith }, played_none D w x), refl)
+fault_first : (r : Reply) (rest : List Reply) → HasNewFault rest → HasNewFault (rest ++ r ∷ [])
+fault_first r [] is = absurd is
+fault_first r (q ∷ rest) (inl here) = inl here
+fault_first r (q ∷ rest) (inr later) = inr (fault_first r rest later)
 
-pub finishes_more : {X : Type 0} (D : Ghosts X) (old mid new : World) (begun last r : Reply) (n : ℕ) (x y z : X) →
-    (f : Finishes D old mid begun last x y) × (length f.0 ≡ n) → n < 66000 → goes_on last ≡ true →
-    Played D mid new (event.Step actor.Core ∷ []) (r ∷ []) y z → (f : Finishes D old new begun r x z) × (length f.0 ≡ n + 1)
-finishes_more D old mid new begun last r n x y z ((rest, stepped, so_far), made) few goes one =
-    let size : length (rest ++ r ∷ []) ≡ n + 1 = length-append rest (r ∷ []) ∙ ap (λ (k : ℕ). k + 1) made in (
-      (
-        rest ++ r ∷ [],
-        record { last_is = last_more begun rest r; goes = goes_more begun rest r stepped.goes (ap goes_on stepped.last_is ∙ goes); few = omega arith },
-        subst (λ (es : List Event). Played D old new es (rest ++ r ∷ []) x z) (sym (map-append core_step rest (r ∷ [])))
-            (played_then D old mid new (core_steps rest) (event.Step actor.Core ∷ []) rest (r ∷ []) x y z so_far one),
-      ),
-      size,
+fault_last : (r : Reply) (rest : List Reply) → TellsNewFault r → HasNewFault (rest ++ r ∷ [])
+fault_last r [] is = inl is
+fault_last r (q ∷ rest) is = inr (fault_last r rest is)
+
+fault_either : (r : Reply) (rest : List Reply) → HasNewFault (rest ++ r ∷ []) → HasNewFault rest ⊎ TellsNewFault r
+fault_either r [] (inl is) = inr is
+fault_either r [] (inr none) = absurd none
+fault_either r (q ∷ rest) (inl here) = inl (inl here)
+fault_either r (q ∷ rest) (inr later) = elim (fault_either r rest later) [ inl first ↦ inl (inr first) | inr last ↦ inr last ]
+
+pub goes_first : {X : Type 0} (D : Ghosts X) (w : World) (begun : Reply) (x : X) → GoesOn D w w begun begun false 0 x x
+goes_first D w begun x = ([], record { last_is = refl; goes = tt; counted = refl; failed_is = (λ is. false≢true is, λ none. absurd none) }, played_none D w x)
+
+pub goes_then : {X : Type 0} (D : Ghosts X) (old mid new : World) (begun last r : Reply) (failed now : Bool) (n : ℕ) (x y z : X) →
+    GoesOn D old mid begun last failed n x y → goes_on last ≡ true → (failed ≡ true → now ≡ true) → (TellsNewFault r → now ≡ true) → (now ≡ true → (failed ≡ true) ⊎ TellsNewFault r) →
+    Played D mid new (event.Step actor.Core ∷ []) (r ∷ []) y z → GoesOn D old new begun r now (n + 1) x z
+goes_then D old mid new begun last r failed now n x y z (rest, stepped, so_far) goes noted noticed no_other one = (
+  rest ++ r ∷ [],
+  record {
+    last_is = last_more begun rest r;
+    goes = goes_more begun rest r stepped.goes (ap goes_on stepped.last_is ∙ goes);
+    counted = length-append rest (r ∷ []) ∙ ap (λ (k : ℕ). k + 1) stepped.counted;
+    failed_is = (
+      λ is. elim (no_other is) [ inl before ↦ fault_first r rest (stepped.failed_is.0 before) | inr new' ↦ fault_last r rest new' ],
+      λ has. elim (fault_either r rest has) [ inl before ↦ noted (stepped.failed_is.1 before) | inr new' ↦ noticed new' ],
+    );
+  },
+  subst (λ (es : List Event). Played D old new es (rest ++ r ∷ []) x z) (sym (map-append core_step rest (r ∷ [])))
+      (played_then D old mid new (core_steps rest) (event.Step actor.Core ∷ []) rest (r ∷ []) x y z so_far one),
+)
+
+pub finishes : {X : Type 0} (D : Ghosts X) (old new : World) (begun : Reply) (ended : Ended) (n : ℕ) (x y : X) →
+    GoesOn D old new begun ended.reply ended.failed n x y → (goes_on ended.reply ≡ false) ⊎ (n ≡ 66000) → n ≤ 66000 → Finishes D old new begun ended x y
+finishes D old new begun ended n x y (rest, stepped, played) over few =
+    let count = stepped.counted in (
+      rest,
+      record {
+        last_is = stepped.last_is;
+        goes = stepped.goes;
+        over = elim over [ inl stops ↦ inl stops | inr most ↦ inr (stepped.counted ∙ most) ];
+        few = omega arith;
+        failed = stepped.failed_is;
+      },
+      played,
     )
 
 -- A boot, by how it ends.
 
-pub boots_unsynced : {X : Type 0} (D : Ghosts X) (old one two : World) (begun r : Reply) (ended : Ended) (x y z : X) → ended.reply ≡ r → goes_on r ≡ false →
+pub boots_unsynced : {X : Type 0} (D : Ghosts X) (old one two : World) (begun r : Reply) (ended : Ended) (x y z : X) → ended.reply ≡ r → (ended.failed ≡ true) ↔ TellsNewFault r → goes_on r ≡ false →
     Played D old one (event.Boot Kept ∷ []) (begun ∷ []) x y → Played D one two (event.Step actor.Core ∷ []) (r ∷ []) y z → Boots D old two (Err ended) x z
-boots_unsynced D old one two begun r ended x y z is stops first second =
+boots_unsynced D old one two begun r ended x y z is failed stops first second =
     let replies = begun ∷ ended.reply ∷ [] in (
       event.Boot Kept ∷ event.Step actor.Core ∷ [],
       replies,
-      inl (record { begun = begun; stops = ap goes_on is ∙ stops; events_are = refl; replies_are = refl }),
+      inl (record { begun = begun; stops = ap goes_on is ∙ stops; failed = subst (λ (q : Reply). (ended.failed ≡ true) ↔ TellsNewFault q) (sym is) failed; events_are = refl; replies_are = refl }),
       subst (λ (q : Reply). Played D old two (event.Boot Kept ∷ event.Step actor.Core ∷ []) (begun ∷ q ∷ []) x z) (sym is)
           (played_then D old one two (event.Boot Kept ∷ []) (event.Step actor.Core ∷ []) (begun ∷ []) (r ∷ []) x y z first second),
     )
@@ -79,13 +114,13 @@ played_boot D old one two three begun synced r x y z u first second third =
     played_then D old one three (event.Boot Kept ∷ []) (event.Step actor.Core ∷ event.Step actor.Core ∷ []) (begun ∷ []) (synced ∷ r ∷ []) x y u first
     (played_then D one two three (event.Step actor.Core ∷ []) (event.Step actor.Core ∷ []) (synced ∷ []) (r ∷ []) y z u second third)
 
-pub boots_unread : {X : Type 0} (D : Ghosts X) (old one two three : World) (begun synced r : Reply) (ended : Ended) (x y z u : X) → ended.reply ≡ r →
+pub boots_unread : {X : Type 0} (D : Ghosts X) (old one two three : World) (begun synced r : Reply) (ended : Ended) (x y z u : X) → ended.reply ≡ r → (ended.failed ≡ true) ↔ TellsNewFault r →
     goes_on synced ≡ true → is_booted r ≡ false → Played D old one (event.Boot Kept ∷ []) (begun ∷ []) x y →
     Played D one two (event.Step actor.Core ∷ []) (synced ∷ []) y z → Played D two three (event.Step actor.Core ∷ []) (r ∷ []) z u → Boots D old three (Err ended) x u
-boots_unread D old one two three begun synced r ended x y z u is goes stops first second third = (
+boots_unread D old one two three begun synced r ended x y z u is failed goes stops first second third = (
   boot_events,
   begun ∷ synced ∷ ended.reply ∷ [],
-  inr (record { begun = begun; synced = synced; goes = goes; stops = ap is_booted is ∙ stops; events_are = refl; replies_are = refl }),
+  inr (record { begun = begun; synced = synced; goes = goes; stops = ap is_booted is ∙ stops; failed = subst (λ (q : Reply). (ended.failed ≡ true) ↔ TellsNewFault q) (sym is) failed; events_are = refl; replies_are = refl }),
   subst (λ (q : Reply). Played D old three boot_events (begun ∷ synced ∷ q ∷ []) x u) (sym is) (played_boot D old one two three begun synced r x y z u first second third),
 )
 
@@ -126,13 +161,16 @@ starts_shrunk D old mid new want r x y z (events, replies, ready, booted) one = 
 
 -- A whole run over a disk with one image, from a new world.
 
-only_this : (c : Option disk.Content) (v w : disk.DiskImage) → c ≡ Some (disk.settled v) → IfSome c (λ held. disk.IsImage held w) → disk.IsImage (disk.settled v) w
-only_this c v w told is = subst (λ (o : Option disk.Content). IfSome o (λ held. disk.IsImage held w)) told is
+told_whole : (blocks : ℕ) (told : Option disk.Content) (c : disk.Content) → told ≡ Some c → IfSome told (disk.IsContent blocks) → disk.IsContent blocks c
+told_whole blocks told c e is = subst (λ (o : Option disk.Content). IfSome o (disk.IsContent blocks)) e is
+
+pub only_one : (told : Option disk.Content) (v w : disk.DiskImage) → told ≡ Some (disk.settled v) → IfSome told (λ c. disk.IsImage c w) → w ≡ v
+only_one told v w is image = IsImage-settled v w (subst (λ (o : Option disk.Content). IfSome o (λ c. disk.IsImage c w)) is image)
 
 pub ran : {X : Type 0} (D : Ghosts X) (old new : World) (events : List Event) (replies : List Reply) (x y : X) → IsNewWorld (hardware_of old) (Some old.frames) old →
-    ((v w : disk.DiskImage) → D.content x ≡ Some (disk.settled v) → IsTrue (D.tells_moments x) → D.left_since x (D.moment x) w → w ≡ v) →
+    IfSome (D.content x) (disk.IsContent (D.block_count x)) → ((v w : disk.DiskImage) → D.content x ≡ Some (disk.settled v) → IsTrue (D.tells_moments x) → D.left_since x (D.moment x) w → w ≡ v) →
     Played D old new events replies x y → Ran D (hardware_of old) old.frames events replies (shown new) x y
-ran D old new events replies x y fresh only played = record {
+ran D old new events replies x y fresh whole only played = record {
   calls = played.calls;
   faults = played.faults;
   over = λ v told original.
@@ -146,6 +184,7 @@ ran D old new events replies x y fresh only played = record {
         state = refl;
         content = refl;
         stands = stands.stands;
+        whole = (D.block_count x, told_whole (D.block_count x) (D.content x) (disk.settled v) told whole);
         through = leads.through;
         turns = leads.turns;
         told = leads.told ∙ ap (λ (p : Situation). Some p.content) (sym leads.ends);
@@ -160,10 +199,10 @@ ran D old new events replies x y fresh only played = record {
 
 -- The commands.
 
-pub asked : {X : Type 0} (D : Ghosts X) (f : Format) (size : Option ℕ) (old started begun new : World) (b last : Reply) (x y z u : X) →
-    Starts D size old started (Ok tt) x y → Played D started begun (event.Hibernate f ∷ []) (b ∷ []) y z → Finishes D begun new b last z u →
-    (events : List Event) × (replies : List Reply) × IsHibernation f size last events replies × Played D old new events replies x u
-asked D f size old started begun new b last x y z u (front, first, ready, so_far) one (rest, stepped, finished) =
+pub asked : {X : Type 0} (D : Ghosts X) (f : Format) (size : Option ℕ) (old started begun new : World) (b : Reply) (ended : Ended) (x y z u : X) →
+    Starts D size old started (Ok tt) x y → Played D started begun (event.Hibernate f ∷ []) (b ∷ []) y z → Finishes D begun new b ended z u →
+    (events : List Event) × (replies : List Reply) × IsHibernation f size ended events replies × Played D old new events replies x u
+asked D f size old started begun new b ended x y z u (front, first, ready, so_far) one (rest, stepped, finished) =
     let then = event.Hibernate f ∷ core_steps rest in (
       front ++ then,
       first ++ b ∷ rest,
@@ -172,10 +211,10 @@ asked D f size old started begun new b last x y z u (front, first, ready, so_far
           (played_then D started begun new (event.Hibernate f ∷ []) (core_steps rest) (b ∷ []) rest y z u one finished),
     )
 
-pub resumed : {X : Type 0} (D : Ghosts X) (check : IdentCheck) (old begun new : World) (b last : Reply) (x y z : X) →
-    Played D old begun (event.Resume Table check ∷ []) (b ∷ []) x y → Finishes D begun new b last y z →
-    (events : List Event) × (replies : List Reply) × IsResumption check last events replies × Played D old new events replies x z
-resumed D check old begun new b last x y z one (rest, stepped, finished) = (
+pub resumed : {X : Type 0} (D : Ghosts X) (check : IdentCheck) (old begun new : World) (b : Reply) (ended : Ended) (x y z : X) →
+    Played D old begun (event.Resume Table check ∷ []) (b ∷ []) x y → Finishes D begun new b ended y z →
+    (events : List Event) × (replies : List Reply) × IsResumption check ended events replies × Played D old new events replies x z
+resumed D check old begun new b ended x y z one (rest, stepped, finished) = (
   event.Resume Table check ∷ core_steps rest,
   b ∷ rest,
   record { begun = b; rest = rest; stepped = stepped; events_are = refl; replies_are = refl },
@@ -188,8 +227,8 @@ steps_few : (rest : List Reply) → steps_of (core_steps rest) ≡ length rest
 steps_few [] = refl
 steps_few (r ∷ rest) = ap (λ (n : ℕ). suc n) (steps_few rest)
 
-pub resumption_few : (check : IdentCheck) (last : Reply) (events : List Event) (replies : List Reply) → IsResumption check last events replies → steps_of events ≤ 66000
-resumption_few check last events replies is =
+pub resumption_few : (check : IdentCheck) (ended : Ended) (events : List Event) (replies : List Reply) → IsResumption check ended events replies → steps_of events ≤ 66000
+resumption_few check ended events replies is =
     let few = is.stepped.few in
     let count = ap steps_of is.events_are in
     let steps = steps_few is.rest in
@@ -202,10 +241,10 @@ shrink_few : (size : Option ℕ) → steps_of (shrink_events size) ≡ 0
 shrink_few None = refl
 shrink_few (Some want) = refl
 
-pub hibernation_few : (f : Format) (size : Option ℕ) (last : Reply) (events : List Event) (replies : List Reply) → IsHibernation f size last events replies → steps_of events ≤ 66002
-hibernation_few f size last events replies (inl (inl is)) = let count = ap steps_of is.events_are in omega arith
-hibernation_few f size last events replies (inl (inr is)) = let count = ap steps_of is.events_are in omega arith
-hibernation_few f size last events replies (inr is) =
+pub hibernation_few : (f : Format) (size : Option ℕ) (ended : Ended) (events : List Event) (replies : List Reply) → IsHibernation f size ended events replies → steps_of events ≤ 66002
+hibernation_few f size ended events replies (inl (inl is)) = let count = ap steps_of is.events_are in omega arith
+hibernation_few f size ended events replies (inl (inr is)) = let count = ap steps_of is.events_are in omega arith
+hibernation_few f size ended events replies (inr is) =
     let few = is.stepped.few in
     let steps = steps_few is.rest in
     let front = ap steps_of is.ready.events_are in

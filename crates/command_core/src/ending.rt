@@ -1,11 +1,9 @@
-ghost use Rattle.std.specs.Prelude.{◌≡◌, ◌⊎◌, ◌≤◌, ◌<◌, ◌+◌, ◌↔◌, ℕ, true, false, IsTrue, Some};
-ghost use Rattle.definitions.specs.Disk.{Content, HasRisen};
-ghost use Rattle.plain_machine.specs.State.{State};
+ghost use Rattle.std.specs.Prelude.{◌≡◌, ◌⊎◌, ◌≤◌, ◌↔◌, IsTrue};
+ghost use Rattle.definitions.specs.Disk.{HasRisen};
 ghost use Rattle.protocol_laws.specs.Rows.{TellsNewFault};
-ghost use Rattle.world_core.specs.StandsFor.{IsOff, StandsFor, blocks_of, hardware_of};
+ghost use Rattle.world_core.specs.StandsFor.{IsOff, blocks_of, hardware_of};
 ghost use Rattle.command_core.specs.Runs.{goes_on};
 ghost use Rattle.command_core.specs.Parts.{Finishes};
-ghost use Rattle.command_core.specs.Turns.{HasGone, Elapsed};
 
 use plain_machine::{Actor, Event, Left, Reply};
 use sector_disk::Disk;
@@ -39,25 +37,7 @@ impl Ended {
 /// Makes the steps of the operation that this reply began, up to a reply after which none is left.
 pub(crate) fn finish<D: Disk>(world: &mut World, disk: &mut D, begun: Reply) -> Ended
     requires blocks { IsOff world.old ⊎ (D.block_count disk.old ≡ blocks_of world.old) }
-    ensures gone { (c : Content) (a : State) → D.content disk.old ≡ Some c → StandsFor world.old c a →
-        HasGone (hardware_of world.old) world.new (record {
-          reply = begun;
-          failed = false;
-          state = a;
-          content = c;
-          frames = world.old.frames;
-        }) result (D.content disk.new) }
-    ensures inside { IsTrue (D.tells_moments disk.old) → (c : Content) (a : State) → D.content disk.old ≡ Some c →
-        StandsFor world.old c a →
-        Elapsed (hardware_of world.old) (record {
-          reply = begun;
-          failed = false;
-          state = a;
-          content = c;
-          frames = world.old.frames;
-        }) (D.moment disk.old) (D.moment disk.new)
-        (D.left_since disk.old) (D.left_since disk.new) }
-    ensures ran { Finishes D.Disk world.old world.new begun result.reply disk.old disk.new }
+    ensures ran { Finishes D.Disk world.old world.new begun result disk.old disk.new }
     ensures hardware { hardware_of world.new ≡ hardware_of world.old }
     ensures cause { IsTrue result.failed → HasRisen (D.faults disk.old) (D.faults disk.new) }
     ensures faults { D.faults disk.old ≤ D.faults disk.new }

@@ -1,14 +1,8 @@
-ghost use Rattle.std.specs.Prelude.{◌≡◌, ◌⊎◌, ◌≤◌, ◌+◌, IsTrue, Some, IfErr};
-ghost use Rattle.definitions.specs.Disk.{DiskImage, HasRisen, settled};
-ghost use Rattle.plain_machine.specs.Chain.{Marked};
-ghost use Rattle.plain_machine.specs.Machine.{IsHardware};
-ghost use Rattle.plain_machine.specs.UsableArea.{HasOriginal};
+ghost use Rattle.std.specs.Prelude.{◌≡◌, ◌⊎◌, ◌≤◌, IsTrue, Some, IfErr};
+ghost use Rattle.definitions.specs.Disk.{HasRisen};
 ghost use Rattle.world_core.specs.StandsFor.{IsNewWorld, IsOff, blocks_of, hardware_of, shown};
-ghost use Rattle.command_core.specs.Runs.{IsHibernation, RanAs};
-ghost use Rattle.command_core.specs.Runs.{image_to_save, is_booted, machine_of_dump, machine_to_save};
-ghost use Rattle.command_core.specs.Parts.{Boots, IsUpOrFails, Starts};
-ghost use Rattle.command_core.specs.Turns.{IsStill};
-ghost use Rattle.command_core.specs.Runs.{HasHibernated, IsUnmarkedOrHolds};
+ghost use Rattle.command_core.specs.Runs.{IsHibernation, RanAs, is_booted};
+ghost use Rattle.command_core.specs.Parts.{Boots, Starts};
 
 use crate::ending::{Ended, finish, goes_on};
 use page_core::Format;
@@ -24,18 +18,8 @@ pub fn hibernate<D: Disk>(
     format: Format,
     size: Option<u64>,
 ) -> Ended
-    requires hardware { IsHardware (hardware_of world.old) }
     requires new { IsNewWorld (hardware_of world.old) (Some world.old.frames) world.old }
-    ensures hibernated { (v : DiskImage) → D.content disk.old ≡ Some (settled v) →
-        (Marked (hardware_of world.old) v → HasOriginal (hardware_of world.old) v) →
-        HasHibernated (hardware_of world.old) (machine_to_save (hardware_of world.old) world.old.frames size v) format v
-        result (D.content disk.new) }
-    ensures inside { IsTrue (D.tells_moments disk.old) → (v : DiskImage) → D.content disk.old ≡ Some (settled v) →
-        (Marked (hardware_of world.old) v → ⊥) → (w : DiskImage) → D.left_since disk.new (D.moment disk.old) w →
-        IsUnmarkedOrHolds (hardware_of world.old)
-        (image_to_save (hardware_of world.old) (machine_to_save (hardware_of world.old) world.old.frames size v)
-        format) w }
-    ensures ran { RanAs (IsHibernation format size result.reply) D.Disk (hardware_of world.old) world.old.frames
+    ensures ran { RanAs (IsHibernation format size result) D.Disk (hardware_of world.old) world.old.frames
         (shown world.new) disk.old disk.new }
     ensures hardware { hardware_of world.new ≡ hardware_of world.old }
     ensures cause { IsTrue result.failed → HasRisen (D.faults disk.old) (D.faults disk.new) }
@@ -54,15 +38,7 @@ pub fn hibernate<D: Disk>(
 /// failed.
 fn start<D: Disk>(world: &mut World, disk: &mut D, size: Option<u64>) -> Result<(), Ended>
     requires new { IsNewWorld (hardware_of world.old) (Some world.old.frames) world.old }
-    ensures up { (v : DiskImage) → D.content disk.old ≡ Some (settled v) →
-        (Marked (hardware_of world.old) v → HasOriginal (hardware_of world.old) v) →
-        IsUpOrFails (hardware_of world.old) (machine_to_save (hardware_of world.old) world.old.frames size v) v
-        world.new result (D.content disk.new) }
-    ensures still { IsTrue (D.tells_moments disk.old) → (v : DiskImage) → D.content disk.old ≡ Some (settled v) →
-        (Marked (hardware_of world.old) v → HasOriginal (hardware_of world.old) v) →
-        IsStill (D.moment disk.old) (D.moment disk.new) (D.left_since disk.new) v }
     ensures ran { Starts D.Disk size world.old world.new result disk.old disk.new }
-    ensures telling { D.tells_moments disk.new ≡ D.tells_moments disk.old }
     ensures hardware { hardware_of world.new ≡ hardware_of world.old }
     ensures cause { IfErr result (λ ended. IsTrue ended.failed → HasRisen (D.faults disk.old) (D.faults disk.new)) }
     ensures faults { D.faults disk.old ≤ D.faults disk.new }
@@ -82,15 +58,7 @@ fn start<D: Disk>(world: &mut World, disk: &mut D, size: Option<u64>) -> Result<
 /// Boots the machine, or tells the call of the disk that failed.
 fn boot<D: Disk>(world: &mut World, disk: &mut D) -> Result<(), Ended>
     requires new { IsNewWorld (hardware_of world.old) (Some world.old.frames) world.old }
-    ensures booted { (v : DiskImage) → D.content disk.old ≡ Some (settled v) →
-        (Marked (hardware_of world.old) v → HasOriginal (hardware_of world.old) v) →
-        IsUpOrFails (hardware_of world.old) (machine_of_dump (hardware_of world.old) world.old.frames v) v world.new
-        result (D.content disk.new) }
-    ensures still { IsTrue (D.tells_moments disk.old) → (v : DiskImage) → D.content disk.old ≡ Some (settled v) →
-        (Marked (hardware_of world.old) v → HasOriginal (hardware_of world.old) v) →
-        IsStill (D.moment disk.old) (D.moment disk.new) (D.left_since disk.new) v }
     ensures ran { Boots D.Disk world.old world.new result disk.old disk.new }
-    ensures telling { D.tells_moments disk.new ≡ D.tells_moments disk.old }
     ensures hardware { hardware_of world.new ≡ hardware_of world.old }
     ensures cause { IfErr result (λ ended. IsTrue ended.failed → HasRisen (D.faults disk.old) (D.faults disk.new)) }
     ensures faults { D.faults disk.old ≤ D.faults disk.new }

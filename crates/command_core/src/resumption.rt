@@ -1,11 +1,6 @@
-ghost use Rattle.std.specs.Prelude.{◌≡◌, ◌≤◌, ◌+◌, IsTrue, Some};
-ghost use Rattle.definitions.specs.Disk.{DiskImage, HasRisen, settled};
-ghost use Rattle.plain_machine.specs.Chain.{Marked};
-ghost use Rattle.plain_machine.specs.Machine.{IsHardware};
-ghost use Rattle.plain_machine.specs.UsableArea.{HasOriginal};
-ghost use Rattle.plain_machine.specs.Stands.{IsSameOrTakenBack};
+ghost use Rattle.std.specs.Prelude.{◌≡◌, ◌≤◌, IsTrue, Some};
+ghost use Rattle.definitions.specs.Disk.{HasRisen};
 ghost use Rattle.world_core.specs.StandsFor.{IsNewWorld, hardware_of, shown};
-ghost use Rattle.command_core.specs.Runs.{HasResumed};
 ghost use Rattle.command_core.specs.Runs.{IsResumption, RanAs};
 
 use crate::ending::{Ended, finish};
@@ -17,15 +12,8 @@ use world_core::World;
 /// kernel/power/hibernate.c). What it answers last; where that is `Resumed`, its page frames are those of the machine
 /// that was saved.
 pub fn resume<D: Disk>(world: &mut World, disk: &mut D, check: IdentCheck) -> Ended
-    requires hardware { IsHardware (hardware_of world.old) }
     requires new { IsNewWorld (hardware_of world.old) (Some world.old.frames) world.old }
-    ensures resumed { (v : DiskImage) → D.content disk.old ≡ Some (settled v) →
-        (Marked (hardware_of world.old) v → HasOriginal (hardware_of world.old) v) →
-        HasResumed (hardware_of world.old) world.old.frames check v world.new.frames result (D.content disk.new) }
-    ensures inside { IsTrue (D.tells_moments disk.old) → (v : DiskImage) → D.content disk.old ≡ Some (settled v) →
-        (Marked (hardware_of world.old) v → HasOriginal (hardware_of world.old) v) →
-        (w : DiskImage) → D.left_since disk.new (D.moment disk.old) w → IsSameOrTakenBack (hardware_of world.old) v w }
-    ensures ran { RanAs (IsResumption check result.reply) D.Disk (hardware_of world.old) world.old.frames
+    ensures ran { RanAs (IsResumption check result) D.Disk (hardware_of world.old) world.old.frames
         (shown world.new) disk.old disk.new }
     ensures hardware { hardware_of world.new ≡ hardware_of world.old }
     ensures cause { IsTrue result.failed → HasRisen (D.faults disk.old) (D.faults disk.new) }

@@ -29,11 +29,11 @@ module _ (x x' : View) (status : Status) (told : Tells memory_told status x x') 
   pub memory_drills : (number : ℕ) → IsDrilled number x x' status
   memory_drills number = drills.out_of_memory (record { told = told; untouched = untouched })
 
-  pub memory_hibernates : {X : Type 0} (D : Ghosts X) (before after : X) (format : Format) (size : Option ℕ) → Hibernates D before after format size x x' status
-  memory_hibernates D before after format size = dumps.out_of_memory (record { told = told; untouched = untouched })
+  pub memory_hibernates : {X : Type 0} (D : Ghosts X) (d : X) (format : Format) (size : Option ℕ) → Hibernates D d d format size x x' status
+  memory_hibernates D d format size = dumps.out_of_memory (record { told = told; untouched = untouched }) refl
 
-  pub memory_resumes : {X : Type 0} (D : Ghosts X) (before after : X) (check : IdentCheck) → Resumes D before after check x x' status
-  memory_resumes D before after check = loads.out_of_memory (record { told = told; untouched = untouched })
+  pub memory_resumes : {X : Type 0} (D : Ghosts X) (d : X) (check : IdentCheck) → Resumes D d d check x x' status
+  memory_resumes D d check = loads.out_of_memory (record { told = told; untouched = untouched }) refl
 
   pub memory_exports : Exports x x' status
   memory_exports = exports.out_of_memory (record { told = told; untouched = untouched })

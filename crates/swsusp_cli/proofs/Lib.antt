@@ -14,4 +14,3 @@ pub mod Turns
 pub mod Drilled
 pub mod Dumped
 pub mod Promised
-pub mod Laws

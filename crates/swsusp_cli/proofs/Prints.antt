@@ -72,15 +72,15 @@ replay_flushed x x' status (played script is) well = (is.prints.2.flushed, is.no
 replay_flushed x x' status (cut_off script is) well = absurd (well is.status_is)
 
 pub hibernates_flushed : {X : Type 0} (D : Ghosts X) (before after : X) (f : Format) (size : Option ℕ) (x x' : View) (status : Status) → Hibernates D before after f size x x' status → status ≢ Stream → AreFlushed x'.out x'.note
-hibernates_flushed D before after f size x x' status (dumps.no_dump fault is) well = told_flushed (dump_told fault) status x.out x'.out x.note x'.note is.told well
-hibernates_flushed D before after f size x x' status (dumps.out_of_memory is) well = told_flushed memory_told status x.out x'.out x.note x'.note is.told well
-hibernates_flushed D before after f size x x' status (dumps.unread is) well = absurd (well is.status_is)
+hibernates_flushed D before after f size x x' status (dumps.no_dump fault is untouched) well = told_flushed (dump_told fault) status x.out x'.out x.note x'.note is.told well
+hibernates_flushed D before after f size x x' status (dumps.out_of_memory is untouched) well = told_flushed memory_told status x.out x'.out x.note x'.note is.told well
+hibernates_flushed D before after f size x x' status (dumps.unread is untouched) well = absurd (well is.status_is)
 hibernates_flushed D before after f size x x' status (dumps.answered dump ended is) well = told_flushed (hibernation_told ended) status x.out x'.out x.note x'.note is.told well
 
 pub resumes_flushed : {X : Type 0} (D : Ghosts X) (before after : X) (check : IdentCheck) (x x' : View) (status : Status) → Resumes D before after check x x' status → status ≢ Stream → AreFlushed x'.out x'.note
-resumes_flushed D before after check x x' status (loads.no_dump fault is) well = told_flushed (dump_told fault) status x.out x'.out x.note x'.note is.told well
-resumes_flushed D before after check x x' status (loads.out_of_memory is) well = told_flushed memory_told status x.out x'.out x.note x'.note is.told well
-resumes_flushed D before after check x x' status (loads.unread is) well = absurd (well is.status_is)
+resumes_flushed D before after check x x' status (loads.no_dump fault is untouched) well = told_flushed (dump_told fault) status x.out x'.out x.note x'.note is.told well
+resumes_flushed D before after check x x' status (loads.out_of_memory is untouched) well = told_flushed memory_told status x.out x'.out x.note x'.note is.told well
+resumes_flushed D before after check x x' status (loads.unread is untouched) well = absurd (well is.status_is)
 resumes_flushed D before after check x x' status (loads.answered dump ended is) well = told_flushed (resume_told dump.hw is.shown.frames ended) status x.out x'.out x.note x'.note is.told well
 
 pub exports_flushed : (x x' : View) (status : Status) → Exports x x' status → status ≢ Stream → AreFlushed x'.out x'.note

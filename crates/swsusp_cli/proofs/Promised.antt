@@ -1,9 +1,8 @@
 -- The promise of a run, by what its words ask for.
 use Rattle.std.proofs.Common.{◌≡◌, ◌≢◌, ◌⊎◌, inl, inr, ℕ, refl, sym, ◌∙◌, subst, Option, Some, None, List, [], IsTrue, arith}
 use Rattle.std.specs.Prelude.{⊤}
-use Rattle.definitions.specs.Disk.{DiskImage, HasRisen, IsImage}
+use Rattle.definitions.specs.Disk.{HasRisen}
 use Rattle.definitions.specs.Streams.{HandsOut}
-use Rattle.std.specs.Option.{IfSome}
 use Rattle.byte_streams.specs.Flushed.{IsFlushed}
 use Rattle.command_kit.specs.Told.{RunResult, memory_told}
 use Rattle.command_kit.specs.View.{View}
@@ -16,7 +15,6 @@ use Rattle.swsusp_cli.specs.Theorem.{Does, HasCause, IsSafe, Promise}
 use Rattle.swsusp_words.specs.Words.{Asked, command_of, inspect, hibernate, resume, replay, drill, export, import}
 use Rattle.swsusp_cli.proofs.Answered.{memory_drills, memory_exports, memory_hibernates, memory_imports, memory_replays, memory_resumes}
 use Rattle.swsusp_cli.proofs.Crashed.{inside_none}
-use Rattle.swsusp_cli.proofs.Dumped.{loads_untouched, saves_untouched}
 use Rattle.swsusp_cli.proofs.Prints.{AreFlushed, told_flushed}
 
 pub promised : {X : Type 0} (D : Ghosts X) (words : List (List ℕ)) (before after : X) (x x' : View) (ends : Status) (asked : Option Asked) → command_of words ≡ asked → Does D before after x x' ends asked → (IsTrue (D.tells_moments before) → IsSafe D before after x x' asked) →
@@ -47,20 +45,20 @@ module _ {X : Type 0} (D : Ghosts X) (d : X) (x x' : View) (ends : Status) (told
   memory_does (Some (inspect offset swap)) = (inr (record { told = told; untouched = untouched }), left)
   memory_does (Some replay) = (memory_replays x x' ends told untouched, unread_all 1048577 x.left x'.left left)
   memory_does (Some (drill number)) = (memory_drills x x' ends told untouched number, left)
-  memory_does (Some (hibernate format size swap)) = memory_hibernates x x' ends told untouched D d d format size
-  memory_does (Some (resume check swap)) = memory_resumes x x' ends told untouched D d d check
+  memory_does (Some (hibernate format size swap)) = memory_hibernates x x' ends told untouched D d format size
+  memory_does (Some (resume check swap)) = memory_resumes x x' ends told untouched D d check
   memory_does (Some export) = memory_exports x x' ends told untouched
   memory_does (Some (import swap)) = memory_imports x x' ends told untouched left
 
-  pub memory_safe : ((w : DiskImage) → D.left_since d (D.moment d) w → IfSome x.disk.content (λ c. IsImage c w)) → (asked : Option Asked) → IsSafe D d d x x' asked
-  memory_safe only None = tt
-  memory_safe only (Some (inspect offset swap)) = tt
-  memory_safe only (Some replay) = tt
-  memory_safe only (Some (drill number)) = tt
-  memory_safe only (Some (hibernate format size swap)) = saves_untouched format size x.left x.disk.content (D.left_since d (D.moment d)) only
-  memory_safe only (Some (resume check swap)) = loads_untouched x.left x.disk.content (D.left_since d (D.moment d)) only
-  memory_safe only (Some export) = tt
-  memory_safe only (Some (import swap)) = inside_none x.left x'.left (D.moment d) (D.left_since d)
+  pub memory_safe : (asked : Option Asked) → IsSafe D d d x x' asked
+  memory_safe None = tt
+  memory_safe (Some (inspect offset swap)) = tt
+  memory_safe (Some replay) = tt
+  memory_safe (Some (drill number)) = tt
+  memory_safe (Some (hibernate format size swap)) = tt
+  memory_safe (Some (resume check swap)) = tt
+  memory_safe (Some export) = tt
+  memory_safe (Some (import swap)) = inside_none x.left x'.left (D.moment d) (D.left_since d)
 
 stream_no_device : status.Stream ≡ status.Device → ⊥
 stream_no_device same = cc

@@ -36,7 +36,7 @@ use Rattle.swsusp_cli.specs.declared.setting_up.Unready.{Unready}
 use Rattle.swsusp_cli.specs.declared.setting_up.Unready.TheVariants.{Small, Unformatted as NotFormatted}
 use Rattle.command_kit.specs.declared.status.Status.{Status}
 use Rattle.command_kit.specs.declared.status.Status.TheVariants.{Stream, Device}
-use Rattle.command_core.proofs.Leaving.{leaves_then}
+use Rattle.world_runs.proofs.Leaving.{leaves_then}
 use Rattle.swsusp_cli.proofs.Formatted.{CanFormat, formatted_unmarked, formats_leaves, formats_size}
 use Rattle.swsusp_cli.proofs.Prints.{printed_then, whole_still, fails_early}
 use Rattle.world_runs.proofs.Counted.{counted_earlier, risen_earlier}

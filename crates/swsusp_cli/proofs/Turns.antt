@@ -29,7 +29,7 @@ use Rattle.sector_disk.specs.declared.orders.Order.{Order}
 use Rattle.world_runs.specs.Turns.{is_step, steps_of, AreCounted}
 use Rattle.world_runs.proofs.Counted.{called_one, counted_append, counted_one, counted_later, steps_append}
 use Rattle.command_kit.specs.View.{DiskView}
-use Rattle.command_core.proofs.Leaving.{leaves_then}
+use Rattle.world_runs.proofs.Leaving.{leaves_then}
 use Rattle.protocol_laws.proofs.ReplaySteps.{same_steps, stays_of_replay}
 use Rattle.swsusp_cli.proofs.Blocks.{unwritten_here}
 use Rattle.protocol_laws.proofs.Same.{same_area}

@@ -2,22 +2,18 @@
 use Rattle.std.specs.Prelude.{◌≡◌, ◌≤◌, ◌+◌, ℕ, List, [], ◌++◌, codes, decimal, Bool, true, false, if◌then◌else◌}
 use Rattle.std.specs.Prelude.{Option, Some, Ok, Err}
 use Rattle.page_core.specs.declared.format.Format.{Format}
-use Rattle.definitions.specs.Disk as disk
 use Rattle.definitions.specs.Streams.{IsUsedUp}
 use Rattle.dump_file.specs.Dump.{DumpValue, dump_of}
 use Rattle.dump_file.specs.declared.dump.DumpFault.{DumpFault}
 use Rattle.dump_file.specs.declared.dump.DumpKind.{DumpKind}
 use Rattle.dump_file.specs.declared.dump.DumpKind.TheVariants as kind
-use Rattle.plain_machine.specs.Chain.{Marked}
-use Rattle.plain_machine.specs.UsableArea.{HasOriginal}
+use Rattle.plain_machine.specs.Machine.{IsHardware}
 use Rattle.plain_machine.specs.Replies.{line_of}
 use Rattle.plain_machine.specs.declared.reply.Reply.{Reply}
 use Rattle.plain_machine.specs.declared.reply.Reply.TheVariants as reply
 use Rattle.plain_machine.specs.Shows.{WorldView}
 use Rattle.sector_disk.specs.declared.disk.Disk.{Ghosts}
 use Rattle.command_core.specs.Runs.{IsHibernation, RanAs}
-use Rattle.command_core.specs.Runs.{HasHibernated, IsUnmarkedOrHolds}
-use Rattle.command_core.specs.Runs.{image_to_save, machine_to_save}
 use Rattle.command_core.specs.declared.ending.Ended.{Ended}
 use Rattle.command_kit.specs.Told.{RunResult, line}
 use Rattle.swsusp_cli.specs.Outcome.{IsOutOfMemory, FailsAtSource, Tells}
@@ -71,32 +67,23 @@ hibernation_told ended =
     else stopped_told ended
 
 -- The machine of the dump has hibernated, or has answered why it doesn't; cached page frames were dropped before where
--- a size was asked for. What it did over the disk is a run, of which this is the last reply.
+-- a size was asked for. What it did over the disk is a run that ended so.
 pub record HasAnswered {X : Type 0} (D : Ghosts X) (before after : X) (f : Format) (size : Option ℕ) (x x' : View)
     (status : Status) (dump : DumpValue) (ended : Ended) : Type 0 where
   pub dump_is : IsDump x x' dump
+  pub machine : IsHardware dump.hw
   pub told : Tells (hibernation_told ended) status x x'
-  pub ends : (v : disk.DiskImage) → x.disk.content ≡ Some (disk.settled v) →
-      (Marked dump.hw v → HasOriginal dump.hw v) →
-      HasHibernated dump.hw (machine_to_save dump.hw dump.memory size v) f v ended x'.disk.content
   pub shown : WorldView
-  pub ran : RanAs (IsHibernation f size ended.reply) D dump.hw dump.memory shown before after
+  pub ran : RanAs (IsHibernation f size ended) D dump.hw dump.memory shown before after
   pub orders : x'.disk.orders ≡ x.disk.orders
 
--- One of these, by what the outside told before a hibernation and after it.
+-- One of these, by what the outside told before a hibernation and after it. Where no machine is made the disk is as it
+-- was.
 pub data Hibernates {X : Type 0} (D : Ghosts X) (before after : X) (f : Format) (size : Option ℕ) (x x' : View)
     (status : Status) : Type 0 where
-  no_dump : (fault : DumpFault) → IsNoDump x x' status fault → Hibernates D before after f size x x' status
-  out_of_memory : IsOutOfMemory x x' status → Hibernates D before after f size x x' status
-  unread : FailsAtSource x x' status → Hibernates D before after f size x x' status
+  no_dump : (fault : DumpFault) → IsNoDump x x' status fault → after ≡ before →
+      Hibernates D before after f size x x' status
+  out_of_memory : IsOutOfMemory x x' status → after ≡ before → Hibernates D before after f size x x' status
+  unread : FailsAtSource x x' status → after ≡ before → Hibernates D before after f size x x' status
   answered : (dump : DumpValue) (ended : Ended) → HasAnswered D before after f size x x' status dump ended →
       Hibernates D before after f size x x' status
-
--- A crash since the command began leaves no image that is marked and doesn't hold the image of the dump that was read,
--- over a disk that had one image, which wasn't marked. `left` is what the input had, `told` what the disk held, and
--- `since` what a crash may leave.
-pub record SavesInside (f : Format) (size : Option ℕ) (left : Option (List ℕ)) (told : Option disk.Content)
-    (since : disk.DiskImage → Type 0) : Type 0 where
-  pub leaves : (bytes : List ℕ) (dump : DumpValue) (v w : disk.DiskImage) → left ≡ Some bytes →
-      dump_of bytes ≡ Ok dump → told ≡ Some (disk.settled v) → (Marked dump.hw v → ⊥) →
-      since w → IsUnmarkedOrHolds dump.hw (image_to_save dump.hw (machine_to_save dump.hw dump.memory size v) f) w

@@ -1,20 +1,15 @@
 -- How `resume` may end: it reads a loader's dump, and its machine answers.
 use Rattle.std.specs.Prelude.{◌≡◌, ◌≤◌, ◌+◌, ℕ, List, [], Bool, true, false, if◌then◌else◌, Option, Some, Ok}
-use Rattle.definitions.specs.Disk as disk
-use Rattle.dump_file.specs.Dump.{DumpValue, dump_of}
+use Rattle.dump_file.specs.Dump.{DumpValue}
 use Rattle.dump_file.specs.Written.{dump_bytes}
 use Rattle.dump_file.specs.declared.dump.DumpFault.{DumpFault}
-use Rattle.plain_machine.specs.Chain.{Marked}
-use Rattle.plain_machine.specs.Machine.{Hardware, Memory}
-use Rattle.plain_machine.specs.UsableArea.{HasOriginal}
-use Rattle.plain_machine.specs.Stands.{IsSameOrTakenBack}
+use Rattle.plain_machine.specs.Machine.{Hardware, IsHardware, Memory}
 use Rattle.plain_machine.specs.declared.event.IdentCheck.{IdentCheck}
 use Rattle.plain_machine.specs.declared.reply.Reply.{Reply}
 use Rattle.plain_machine.specs.declared.reply.Reply.TheVariants as reply
 use Rattle.plain_machine.specs.Shows.{WorldView}
 use Rattle.sector_disk.specs.declared.disk.Disk.{Ghosts}
 use Rattle.command_core.specs.Runs.{IsResumption, RanAs}
-use Rattle.command_core.specs.Runs.{HasResumed}
 use Rattle.command_core.specs.declared.ending.Ended.{Ended}
 use Rattle.command_kit.specs.Told.{RunResult}
 use Rattle.swsusp_cli.specs.Dumps.{IsDump, IsNoDump, stopped_told}
@@ -36,30 +31,21 @@ abbrev pub resume_told : Hardware → Memory → Ended → RunResult
 resume_told h m ended = if is_resumed ended.reply then written_told h m else stopped_told ended
 
 -- The image was resumed into the machine of the dump, which then has this memory, or it has answered why not. What it
--- did over the disk is a run, of which this is the last reply.
+-- did over the disk is a run that ended so.
 pub record HasLoaded {X : Type 0} (D : Ghosts X) (before after : X) (check : IdentCheck) (x x' : View) (status : Status)
     (dump : DumpValue) (ended : Ended) : Type 0 where
   pub dump_is : IsDump x x' dump
+  pub machine : IsHardware dump.hw
   pub shown : WorldView
   pub told : Tells (resume_told dump.hw shown.frames ended) status x x'
-  pub ends : (v : disk.DiskImage) → x.disk.content ≡ Some (disk.settled v) →
-      (Marked dump.hw v → HasOriginal dump.hw v) →
-      HasResumed dump.hw dump.memory check v shown.frames ended x'.disk.content
-  pub ran : RanAs (IsResumption check ended.reply) D dump.hw dump.memory shown before after
+  pub ran : RanAs (IsResumption check ended) D dump.hw dump.memory shown before after
   pub orders : x'.disk.orders ≡ x.disk.orders
 
--- One of these, by what the outside told before a resume and after it.
+-- One of these, by what the outside told before a resume and after it. Where no machine is made the disk is as it was.
 pub data Resumes {X : Type 0} (D : Ghosts X) (before after : X) (check : IdentCheck) (x x' : View)
     (status : Status) : Type 0 where
-  no_dump : (fault : DumpFault) → IsNoDump x x' status fault → Resumes D before after check x x' status
-  out_of_memory : IsOutOfMemory x x' status → Resumes D before after check x x' status
-  unread : FailsAtSource x x' status → Resumes D before after check x x' status
+  no_dump : (fault : DumpFault) → IsNoDump x x' status fault → after ≡ before → Resumes D before after check x x' status
+  out_of_memory : IsOutOfMemory x x' status → after ≡ before → Resumes D before after check x x' status
+  unread : FailsAtSource x x' status → after ≡ before → Resumes D before after check x x' status
   answered : (dump : DumpValue) (ended : Ended) → HasLoaded D before after check x x' status dump ended →
       Resumes D before after check x x' status
-
--- A crash since the command began leaves the disk as it was, but for block(0), which is as it was or taken back.
-pub record LoadsInside (left : Option (List ℕ)) (told : Option disk.Content) (since : disk.DiskImage →
-    Type 0) : Type 0 where
-  pub leaves : (bytes : List ℕ) (dump : DumpValue) (v w : disk.DiskImage) → left ≡ Some bytes →
-      dump_of bytes ≡ Ok dump → told ≡ Some (disk.settled v) → (Marked dump.hw v → HasOriginal dump.hw v) →
-      since w → IsSameOrTakenBack dump.hw v w

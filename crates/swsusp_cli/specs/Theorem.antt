@@ -1,5 +1,5 @@
--- The theorem: what the program does, whatever its words, its input, its disk and its sinks are. It is the one clause of
--- `run` (src/top.rt). What follows of it, as that an image is resumed at most once, is proved in proofs/Laws.antt.
+-- The theorem: what the program does, whatever its words, its input, its disk and its sinks are. It is the one clause
+-- of `run` (src/top.rt). What follows of it, as that an image is resumed at most once, is proved in proofs/Laws.antt.
 use Rattle.std.specs.Prelude.{◌≡◌, ◌≢◌, ◌⊎◌, List, ℕ, Option, Some, None, IsTrue, ⊤}
 use Rattle.definitions.specs.Disk.{HasRisen}
 use Rattle.byte_streams.specs.Flushed.{IsFlushed}
@@ -9,10 +9,10 @@ use Rattle.command_kit.specs.declared.status.Status.TheVariants as status
 use Rattle.sector_disk.specs.declared.disk.Disk.{Ghosts}
 use Rattle.swsusp_cli.specs.Imports.{ImportsInside}
 use Rattle.swsusp_cli.specs.Drills.{IsDrilled}
-use Rattle.swsusp_cli.specs.Dumps.{Hibernates, SavesInside}
+use Rattle.swsusp_cli.specs.Dumps.{Hibernates}
 use Rattle.swsusp_cli.specs.Exports.{Exports}
 use Rattle.swsusp_cli.specs.Imports.{Imports}
-use Rattle.swsusp_cli.specs.Loads.{LoadsInside, Resumes}
+use Rattle.swsusp_cli.specs.Loads.{Resumes}
 use Rattle.swsusp_cli.specs.Outcome.{IsReplayed}
 use Rattle.swsusp_cli.specs.Outcome.{HandsOutAtMost}
 use Rattle.swsusp_cli.specs.Run.{Inspects, Refuses}
@@ -30,12 +30,9 @@ Does D before after x x' ends (Some (resume check swap)) = Resumes D before afte
 Does D before after x x' ends (Some export) = Exports x x' ends
 Does D before after x x' ends (Some (import swap)) = Imports x x' ends
 
--- What a crash at some moment since the command began may leave, over a disk that tells moments.
+-- What a crash at some moment since an import began may leave, over a disk that tells moments. Of a hibernation and a
+-- resume their runs say it.
 abbrev pub IsSafe : {X : Type 0} → Ghosts X → (before after : X) → (x x' : View) → Option Asked → Type 0
-IsSafe D before after x x' (Some (hibernate format size swap)) =
-    SavesInside format size x.left x.disk.content (D.left_since after (D.moment before))
-IsSafe D before after x x' (Some (resume check swap)) =
-    LoadsInside x.left x.disk.content (D.left_since after (D.moment before))
 IsSafe D before after x x' (Some (import swap)) =
     ImportsInside x.left x'.left (D.moment before) (D.moment after) (D.left_since before) (D.left_since after)
 IsSafe D before after x x' _ = ⊤

@@ -1,6 +1,6 @@
 ghost use Rattle.std.specs.Prelude.{◌≡◌, ◌≢◌, ◌⊎◌, ◌≤◌, ◌+◌, true, IsTrue};
 ghost use Rattle.definitions.specs.Disk.{HasRisen};
-ghost use Rattle.swsusp_cli.specs.Dumps.{Hibernates, SavesInside};
+ghost use Rattle.swsusp_cli.specs.Dumps.{Hibernates};
 ghost use Rattle.command_kit.specs.AnswerOf.{told_by};
 ghost use Rattle.swsusp_cli.specs.Dumps.{hibernation_told};
 ghost use Rattle.command_kit.specs.View.{view};
@@ -34,9 +34,6 @@ pub fn hibernate_dump<I: Source, O: Sink, N: Sink, D: Disk>(
         ⊎ HasRisen (O.faults out.old) (O.faults out.new) ⊎ HasRisen (N.faults note.old) (N.faults note.new) }
     ensures device { result ≡ Status.Device → HasRisen (D.faults disk.old) (D.faults disk.new) }
     ensures words { result ≢ Status.Words }
-    ensures inside { IsTrue (D.tells_moments disk.old) →
-        SavesInside format size (I.remaining input.old) (D.content disk.old)
-        (D.left_since disk.new (D.moment disk.old)) }
 {
     let dump = match dump_of_input(alloc, input) {
         Ok(dump) => dump,

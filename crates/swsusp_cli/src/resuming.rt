@@ -1,6 +1,6 @@
 ghost use Rattle.std.specs.Prelude.{◌≡◌, ◌≢◌, ◌⊎◌, ◌≤◌, ◌+◌, length, [], true, IsTrue, OnOk, OnErr};
 ghost use Rattle.definitions.specs.Disk.{HasRisen};
-ghost use Rattle.swsusp_cli.specs.Loads.{LoadsInside, Resumes};
+ghost use Rattle.swsusp_cli.specs.Loads.{Resumes};
 ghost use Rattle.definitions.specs.Zones.{top};
 ghost use Rattle.dump_file.specs.Written.{dump_bytes};
 ghost use Rattle.swsusp_cli.specs.Loads.{is_resumed, resume_told, written_told};
@@ -37,8 +37,6 @@ pub fn resume_dump<I: Source, O: Sink, N: Sink, D: Disk>(
         ⊎ HasRisen (O.faults out.old) (O.faults out.new) ⊎ HasRisen (N.faults note.old) (N.faults note.new) }
     ensures device { result ≡ Status.Device → HasRisen (D.faults disk.old) (D.faults disk.new) }
     ensures words { result ≢ Status.Words }
-    ensures inside { IsTrue (D.tells_moments disk.old) →
-        LoadsInside (I.remaining input.old) (D.content disk.old) (D.left_since disk.new (D.moment disk.old)) }
 {
     let dump = match dump_of_input(alloc, input) {
         Ok(dump) => dump,

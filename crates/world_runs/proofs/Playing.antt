@@ -1,10 +1,11 @@
 -- One event, and events after events.
-use Rattle.std.proofs.Common.{◌≡◌, ◌⊎◌, inl, inr, ◌≤◌, ℕ, ◌+◌, List, [], ◌∷◌, ◌++◌, Option, Some, refl, sym, ap, ◌∙◌, subst, arith}
+use Rattle.std.proofs.Common.{◌≡◌, inl, inr, ◌≤◌, ℕ, List, [], ◌∷◌, ◌++◌, Option, Some, refl, sym, ap, ◌∙◌, subst, arith}
 use Rattle.std.specs.Prelude.{IsTrue}
+use Rattle.std.specs.Option.{IfSome}
 use Rattle.definitions.specs.Disk as disk
 use Rattle.plain_machine.specs.Machine.{Hardware}
 use Rattle.plain_machine.specs.Stands.{Stands}
-use Rattle.plain_machine.specs.State.{State, loading, Load}
+use Rattle.plain_machine.specs.State.{loading, Load}
 use Rattle.plain_machine.specs.declared.event.Actor.TheVariants as actor
 use Rattle.plain_machine.specs.declared.event.Event.{Event}
 use Rattle.plain_machine.specs.declared.event.Event.TheVariants as event
@@ -16,7 +17,6 @@ use Rattle.sector_disk.specs.declared.disk.Disk.{Ghosts}
 use Rattle.world_core.specs.Row.{SimulatesWhereTold, Restores, CallsAtMostOnce, IsNoCut}
 use Rattle.world_core.specs.StandsFor.{StandsFor, hardware_of, shown}
 use Rattle.world_core.specs.World.{World}
-use Rattle.world_runs.specs.Turns.{steps_of}
 use Rattle.world_runs.specs.Played.{Leads, Passes, Played, situation_of}
 use Rattle.world_runs.specs.Turns.{AreTurns, IsLeftInside, Situation, end_of}
 use Rattle.world_runs.proofs.Counted.{called_one, counted_append, counted_one, steps_append}
@@ -68,15 +68,18 @@ restored_here h e old new r before now c load k n hw told restores step resumed 
     subst (λ (x : Reply). Restores (event.Step actor.Core) old new x before now) resumed (subst (λ (x : Event). Restores x old new r before now) step restores) in
     (here c told load k stands).2.2.memory
 
+content_whole : (blocks : ℕ) (told : Option disk.Content) (c : disk.Content) → told ≡ Some c → IfSome told (disk.IsContent blocks) → disk.IsContent blocks c
+content_whole blocks told c e is = subst (λ (o : Option disk.Content). IfSome o (disk.IsContent blocks)) e is
+
 pub played_one : {X : Type 0} (D : Ghosts X) (old new : World) (e : Event) (r : Reply) (x y : X) →
-    IsNoCut e → hardware_of new ≡ hardware_of old →
+    IfSome (D.content y) (disk.IsContent (D.block_count y)) → IsNoCut e → hardware_of new ≡ hardware_of old →
     SimulatesWhereTold e old new r (D.content x) (D.content y) → Restores e old new r (D.content x) (D.content y) →
     (TellsNewFault r → disk.HasRisen (D.faults x) (D.faults y)) → D.faults x ≤ D.faults y → CallsAtMostOnce e r (D.calls x) (D.calls y) →
     D.tells_moments y ≡ D.tells_moments x →
     (IsNoCut e → IsTrue (D.tells_moments x) →
     disk.Changes (disk.Elapses (D.moment x) (D.moment y) (D.left_since x) (D.left_since y)) (D.content x) (D.content y)) →
     Played D old new (e ∷ []) (r ∷ []) x y
-played_one D old new e r x y uncut hw row restores cause faults calls telling time = record {
+played_one D old new e r x y whole uncut hw row restores cause faults calls telling time = record {
   hardware = hw;
   calls = called_one e r (D.calls x) (D.calls y) calls;
   faults = counted_one r (D.faults x) (D.faults y) faults cause;
@@ -93,6 +96,7 @@ played_one D old new e r x y uncut hw row restores cause faults calls telling ti
           record {
             step = goes.1.step;
             stands = subst (λ (g : Hardware). Stands g (shown new) turn.0 goes.0) hw goes.1.stands.stands;
+            whole = (D.block_count y, content_whole (D.block_count y) (D.content y) turn.0 turn.1 whole);
             area = goes.1.area;
             unwritten = goes.1.unwritten;
             image = goes.1.leaves;

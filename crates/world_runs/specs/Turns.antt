@@ -24,12 +24,13 @@ pub record Situation : Type 0 where
   pub content : disk.Content
 
 -- The plain machine gives this reply to the event, over the disk as it reads then, and what is there after it stands
--- for the state that it goes on to. The area on the disk stays, no other block is written than the event may write, a
--- hibernation that has ended has left its image, and block(0) is left so. Where a resume has ended the page frames are
--- those that it restores.
+-- for the state that it goes on to. The disk is whole, the area on it stays, no other block is written than the event
+-- may write, a hibernation that has ended has left its image, and block(0) is left so. Where a resume has ended the
+-- page frames are those that it restores.
 pub record Turn (h : Hardware) (e : Event) (r : Reply) (p q : Situation) : Type 0 where
   pub step : Step h (disk.as_it_reads p.content) p.state e r q.state
   pub stands : Stands h q.shown q.content q.state
+  pub whole : (blocks : ℕ) × disk.IsContent blocks q.content
   pub area : IsSameArea h (disk.as_it_reads p.content) (disk.as_it_reads q.content)
   pub unwritten : (b : ℕ) → (Contains (blocks_at h e p.state) b → ⊥) → LeavesBlock b p.content q.content
   pub image : LeavesImage h e r p.state q.content

@@ -4,14 +4,15 @@ use Rattle.command_kit.specs.Told.{RunResult}
 use Rattle.swsusp_cli.specs.Dumps.{no_dump, out_of_memory, unread, answered}
 use Rattle.command_kit.specs.Told.{IsTold}
 use Rattle.command_kit.specs.View.{DiskView, SinkView}
+use Rattle.plain_machine.specs.Machine.{IsHardware}
 use Rattle.world_core.specs.StandsFor.{shown}
 use Rattle.command_core.specs.Runs.{IsHibernation}
-use Rattle.swsusp_cli.proofs.Dumped.{hibernated_as, saves_as, saves_untouched, ran_as}
+use Rattle.swsusp_cli.proofs.Dumped.{ran_as}
 use Rattle.swsusp_cli.proofs.Inputs.{without_dump}
 use Rattle.swsusp_cli.proofs.hibernating.hibernate_dump.Goals as goal
 
 pub returns-in-Err-clause-outcome : goal.returns-in-Err-clause-outcome
-returns-in-Err-clause-outcome g c = without_dump _ _ _ c.tell.result c.in-Err.stop c.in-Err.ensures.lacks c.tell.ensures.told refl (λ e. c.in-Err.ensures.cause (ap Err e)) no_dump out_of_memory unread
+returns-in-Err-clause-outcome g c = without_dump _ _ _ c.tell.result c.in-Err.stop c.in-Err.ensures.lacks c.tell.ensures.told refl (λ e. c.in-Err.ensures.cause (ap Err e)) (λ fault is. no_dump fault is refl) (λ is. out_of_memory is refl) (λ is. unread is refl)
 
 pub returns-in-Err-machine_of-clause-outcome : goal.returns-in-Err-machine_of-clause-outcome
 returns-in-Err-machine_of-clause-outcome g c =
@@ -22,7 +23,7 @@ returns-in-Err-machine_of-clause-outcome g c =
     out_of_memory (record {
       told = subst (λ (t : RunResult). IsTold t tell.result out (record { taken = g.O.Sink.taken tell.new.out; flushed = g.O.Sink.flushed tell.new.out; faults = g.O.Sink.faults tell.new.out }) note (record { taken = g.N.Sink.taken tell.new.note; flushed = g.N.Sink.flushed tell.new.note; faults = g.N.Sink.faults tell.new.note })) c.no_memory.ensures.told tell.ensures.told;
       untouched = refl {a = before};
-    })
+    }) refl
 
 pub returns-clause-outcome : goal.returns-clause-outcome
 returns-clause-outcome g c =
@@ -34,21 +35,9 @@ returns-clause-outcome g c =
     let ended = c.hibernate-ended in
     answered dump ended.result (record {
       dump_is = record { says = λ bytes left. c.in-Ok.ensures.dump bytes left; over = c.in-Ok.ensures.end refl };
+      machine = subst IsHardware made.is made.hardware;
       told = subst (λ (t : RunResult). IsTold t tell.result out (record { taken = g.O.Sink.taken tell.new.out; flushed = g.O.Sink.flushed tell.new.out; faults = g.O.Sink.faults tell.new.out }) note (record { taken = g.N.Sink.taken tell.new.note; flushed = g.N.Sink.flushed tell.new.note; faults = g.N.Sink.faults tell.new.note })) c.hibernation_answer.ensures.told tell.ensures.told;
-      ends = λ v told original. hibernated_as _ dump.hw _ dump.memory c.args.format c.args.size v ended.result _ made.is made.frames (ended.ensures.hibernated v told) original;
       shown = shown ended.new.world;
-      ran = ran_as g.D.Disk (IsHibernation c.args.format c.args.size ended.result.reply) _ dump.hw _ dump.memory _ c.args.disk.now ended.new.disk made.is made.frames ended.ensures.ran;
+      ran = ran_as g.D.Disk (IsHibernation c.args.format c.args.size ended.result) _ dump.hw _ dump.memory _ c.args.disk.now ended.new.disk made.is made.frames ended.ensures.ran;
       orders = ended.ensures.orders;
     })
-
-pub returns-in-Err-clause-inside : goal.returns-in-Err-clause-inside
-returns-in-Err-clause-inside g c = λ tells. saves_untouched c.args.format c.args.size (g.I.Source.remaining c.args.input.now) (g.D.Disk.content c.args.disk.now) (g.D.Disk.left_since c.args.disk.now (g.D.Disk.moment c.args.disk.now)) (λ w left. g.met.D.Disk.only_now c.args.disk.now w tells left)
-
-pub returns-in-Err-machine_of-clause-inside : goal.returns-in-Err-machine_of-clause-inside
-returns-in-Err-machine_of-clause-inside g c = λ tells. saves_untouched c.args.format c.args.size (g.I.Source.remaining c.args.input.now) (g.D.Disk.content c.args.disk.now) (g.D.Disk.left_since c.args.disk.now (g.D.Disk.moment c.args.disk.now)) (λ w left. g.met.D.Disk.only_now c.args.disk.now w tells left)
-
-pub returns-clause-inside : goal.returns-clause-inside
-returns-clause-inside g c = λ tells.
-    let made = c.in-Ok-machine_of.ensures in
-    saves_as c.args.format c.args.size (g.I.Source.remaining c.args.input.now) (g.D.Disk.content c.args.disk.now) (g.D.Disk.left_since c.hibernate-ended.new.disk (g.D.Disk.moment c.args.disk.now))
-    (record { hw = c.in-Ok.dump.hw; memory = c.in-Ok.dump.frames }) _ _ (λ bytes left. c.in-Ok.ensures.dump bytes left) made.is made.frames (λ v told never w left. c.hibernate-ended.ensures.inside tells v told never w left)

@@ -4,16 +4,16 @@ use Rattle.command_kit.specs.Told.{RunResult}
 use Rattle.swsusp_cli.specs.Loads.{no_dump, out_of_memory, unread, answered}
 use Rattle.command_kit.specs.Told.{IsTold}
 use Rattle.command_kit.specs.View.{DiskView, SinkView}
-use Rattle.plain_machine.specs.Machine.{Memory}
+use Rattle.plain_machine.specs.Machine.{IsHardware, Memory}
 use Rattle.world_core.specs.StandsFor.{shown}
 use Rattle.command_core.specs.Runs.{IsResumption}
 use Rattle.swsusp_cli.specs.Loads.{resume_told}
-use Rattle.swsusp_cli.proofs.Dumped.{resumed_as, loads_as, loads_untouched, ran_as}
+use Rattle.swsusp_cli.proofs.Dumped.{ran_as}
 use Rattle.swsusp_cli.proofs.Inputs.{without_dump}
 use Rattle.swsusp_cli.proofs.resuming.resume_dump.Goals as goal
 
 pub returns-in-Err-clause-outcome : goal.returns-in-Err-clause-outcome
-returns-in-Err-clause-outcome g c = without_dump _ _ _ c.tell.result c.in-Err.stop c.in-Err.ensures.lacks c.tell.ensures.told refl (λ e. c.in-Err.ensures.cause (ap Err e)) no_dump out_of_memory unread
+returns-in-Err-clause-outcome g c = without_dump _ _ _ c.tell.result c.in-Err.stop c.in-Err.ensures.lacks c.tell.ensures.told refl (λ e. c.in-Err.ensures.cause (ap Err e)) (λ fault is. no_dump fault is refl) (λ is. out_of_memory is refl) (λ is. unread is refl)
 
 pub returns-in-Err-machine_of-clause-outcome : goal.returns-in-Err-machine_of-clause-outcome
 returns-in-Err-machine_of-clause-outcome g c =
@@ -24,7 +24,7 @@ returns-in-Err-machine_of-clause-outcome g c =
     out_of_memory (record {
       told = subst (λ (t : RunResult). IsTold t tell.result out (record { taken = g.O.Sink.taken tell.new.out; flushed = g.O.Sink.flushed tell.new.out; faults = g.O.Sink.faults tell.new.out }) note (record { taken = g.N.Sink.taken tell.new.note; flushed = g.N.Sink.flushed tell.new.note; faults = g.N.Sink.faults tell.new.note })) c.no_memory.ensures.told tell.ensures.told;
       untouched = refl {a = before};
-    })
+    }) refl
 
 pub returns-clause-outcome : goal.returns-clause-outcome
 returns-clause-outcome g c =
@@ -37,23 +37,12 @@ returns-clause-outcome g c =
     let given = c.frames.ensures.frames in
     answered dump ended.result (record {
       dump_is = record { says = λ bytes left. c.in-Ok.ensures.dump bytes left; over = c.in-Ok.ensures.end refl };
+      machine = subst IsHardware made.is made.hardware;
       shown = shown c.resume-ended.new.world;
       told = subst (λ (m : Memory). IsTold (resume_told dump.hw m ended.result) tell.result out (record { taken = g.O.Sink.taken tell.new.out; flushed = g.O.Sink.flushed tell.new.out; faults = g.O.Sink.faults tell.new.out }) note (record { taken = g.N.Sink.taken tell.new.note; flushed = g.N.Sink.flushed tell.new.note; faults = g.N.Sink.faults tell.new.note })) given tell.ensures.told;
-      ends = λ v told original. resumed_as _ dump.hw _ dump.memory c.args.check v _ _ ended.result _ made.is made.frames refl (ended.ensures.resumed v told) original;
-      ran = ran_as g.D.Disk (IsResumption c.args.check ended.result.reply) _ dump.hw _ dump.memory _ c.args.disk.now ended.new.disk made.is made.frames ended.ensures.ran;
+      ran = ran_as g.D.Disk (IsResumption c.args.check ended.result) _ dump.hw _ dump.memory _ c.args.disk.now ended.new.disk made.is made.frames ended.ensures.ran;
       orders = ended.ensures.orders;
     })
 
 pub returns-clause-stream : goal.returns-clause-stream
 returns-clause-stream g c = λ is. inr (c.tell_end.ensures.stream is)
-
-pub returns-in-Err-clause-inside : goal.returns-in-Err-clause-inside
-returns-in-Err-clause-inside g c = λ tells. loads_untouched (g.I.Source.remaining c.args.input.now) (g.D.Disk.content c.args.disk.now) (g.D.Disk.left_since c.args.disk.now (g.D.Disk.moment c.args.disk.now)) (λ w left. g.met.D.Disk.only_now c.args.disk.now w tells left)
-
-pub returns-in-Err-machine_of-clause-inside : goal.returns-in-Err-machine_of-clause-inside
-returns-in-Err-machine_of-clause-inside g c = λ tells. loads_untouched (g.I.Source.remaining c.args.input.now) (g.D.Disk.content c.args.disk.now) (g.D.Disk.left_since c.args.disk.now (g.D.Disk.moment c.args.disk.now)) (λ w left. g.met.D.Disk.only_now c.args.disk.now w tells left)
-
-pub returns-clause-inside : goal.returns-clause-inside
-returns-clause-inside g c = λ tells.
-    loads_as (g.I.Source.remaining c.args.input.now) (g.D.Disk.content c.args.disk.now) (g.D.Disk.left_since c.resume-ended.new.disk (g.D.Disk.moment c.args.disk.now))
-    (record { hw = c.in-Ok.dump.hw; memory = c.in-Ok.dump.frames }) _ (λ bytes left. c.in-Ok.ensures.dump bytes left) c.in-Ok-machine_of.ensures.is (λ v told original w left. c.resume-ended.ensures.inside tells v told original w left)

@@ -26,13 +26,13 @@ returns-in-Ok-Inspect g c = record {
 
 pub returns-in-Ok-Hibernate : goal.returns-in-Ok-Hibernate
 returns-in-Ok-Hibernate g c = record {
-  theorem = promised g.D.Disk _ _ _ _ _ _ _ (rw c.in-Ok-Hibernate.field-0-is at c.in-Ok-Hibernate.ensures.asks) c.hibernate_dump.ensures.outcome c.hibernate_dump.ensures.inside
+  theorem = promised g.D.Disk _ _ _ _ _ _ _ (rw c.in-Ok-Hibernate.field-0-is at c.in-Ok-Hibernate.ensures.asks) c.hibernate_dump.ensures.outcome (λ tells. tt)
       (caused _ _ _ _ c.hibernate_dump.ensures.words c.hibernate_dump.ensures.stream (hibernates_flushed g.D.Disk _ _ _ _ _ _ _ c.hibernate_dump.ensures.outcome) c.hibernate_dump.ensures.device);
 }
 
 pub returns-in-Ok-Resume : goal.returns-in-Ok-Resume
 returns-in-Ok-Resume g c = record {
-  theorem = promised g.D.Disk _ _ _ _ _ _ _ (rw c.in-Ok-Resume.field-0-is at c.in-Ok-Resume.ensures.asks) c.resume_dump.ensures.outcome c.resume_dump.ensures.inside
+  theorem = promised g.D.Disk _ _ _ _ _ _ _ (rw c.in-Ok-Resume.field-0-is at c.in-Ok-Resume.ensures.asks) c.resume_dump.ensures.outcome (λ tells. tt)
       (caused _ _ _ _ c.resume_dump.ensures.words c.resume_dump.ensures.stream (resumes_flushed g.D.Disk _ _ _ _ _ _ c.resume_dump.ensures.outcome) c.resume_dump.ensures.device);
 }
 
@@ -80,6 +80,6 @@ returns-in-Err-NoMemory g c =
     let ends = c.run_out_of_memory.result in
     record {
       theorem = promised g.D.Disk _ _ _ x x' ends asked refl (memory_does g.D.Disk c.args.disk.now x x' ends c.run_out_of_memory.ensures.told refl refl asked)
-          (λ tells. memory_safe g.D.Disk c.args.disk.now x x' ends c.run_out_of_memory.ensures.told refl refl (λ w left. g.met.D.Disk.only_now c.args.disk.now w tells left) asked)
+          (λ tells. memory_safe g.D.Disk c.args.disk.now x x' ends c.run_out_of_memory.ensures.told refl refl asked)
           (answer_cause asked x x' ends Memory memory_told c.run_out_of_memory.ensures.told c.run_out_of_memory.ensures.stream c.run_out_of_memory.ensures.status (λ same. cc) (λ same. cc));
     }

@@ -19,7 +19,7 @@ use Rattle.plain_machine.specs.declared.reply.Reply.TheVariants as reply
 use Rattle.plain_machine.proofs.Traces.{replies_short, replies_end, causes_count, causes_at}
 use Rattle.image_read.proofs.Counts.{fits_in}
 use Rattle.protocol_laws.proofs.Stopping.{Stops, is_no_stop, stops_else, stops_content, stops_next, stops_taken_back}
-use Rattle.command_core.specs.Runs.{IsLast}
+use Rattle.command_laws.specs.Resumptions.{IsLast}
 use Rattle.command_core.specs.Runs.{goes_on}
 
 -- each reply but the last is Loading, with the numbers from k on

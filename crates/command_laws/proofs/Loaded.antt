@@ -1,4 +1,4 @@
--- A whole resume: from the world before it to what it answers at the end.
+-- The steps of a resume, from its event to what it answers at the end.
 use Rattle.std.proofs.Common.{◌≡◌, ◌≢◌, ◌⊎◌, inl, inr, ◌≤◌, ℕ, zero, suc, nat_eq, Bool, true, false, cond, not, length, [], Option, Some, None, slice_get, unwrap_or, refl, sym, ap, ◌∙◌, subst, arith, Contains}
 use Rattle.std.specs.Cmp.Lexicographic.{pointwise}
 use Rattle.std.proofs.lemmas.Bool.{false≢true}
@@ -8,7 +8,8 @@ use Rattle.definitions.specs.SwapHeader.{flags_of, sig_of, image_signature}
 use Rattle.definitions.specs.ZoneFacts.{AreZones}
 use Rattle.plain_machine.specs.Chain.{Marked, header_of}
 use Rattle.plain_machine.specs.Machine.{Hardware, Memory, block_of_slot}
-use Rattle.plain_machine.specs.Stands.{EachImage}
+use Rattle.plain_machine.specs.Shows.{WorldView}
+use Rattle.plain_machine.specs.Stands.{EachImage, Stands}
 use Rattle.plain_machine.specs.Calls.{load_call}
 use Rattle.plain_machine.specs.State.{State, off, loading, nothing}
 use Rattle.plain_machine.specs.Trace.{header_cause, is_set, restored_in}
@@ -22,19 +23,18 @@ use Rattle.plain_machine.specs.Refusals.{refusal}
 use Rattle.plain_machine.specs.Step.{Step, outcomes}
 use Rattle.protocol_laws.proofs.WrittenWhileHeld.{header_of_load}
 use Rattle.protocol_laws.specs.Rows.{LeavesBlock, blocks_written, TellsNewFault}
-use Rattle.world_core.specs.StandsFor.{StandsFor, hardware_of}
-use Rattle.world_core.specs.World.{World}
-use Rattle.command_core.specs.Runs.{EndsInFault, goes_on, held_at_first}
-use Rattle.command_core.specs.Runs.{IsLast, MayLeaveMark, HasResumed}
-use Rattle.command_core.specs.Turns.{Point, IsTurn, AreSteps, HasGone}
+use Rattle.command_core.specs.Runs.{goes_on, held_at_first}
+use Rattle.command_laws.specs.Hibernations.{EndsInFault}
+use Rattle.command_laws.specs.Resumptions.{IsLast, MayLeaveMark, HasResumed}
+use Rattle.command_laws.specs.Points.{Point, IsTurn, AreSteps, HasGone}
 use Rattle.command_core.specs.declared.ending.Ended.{Ended}
-use Rattle.command_core.proofs.Begun.{IsUntouched, untouched_then, reads_first}
-use Rattle.command_core.proofs.Booting.{one_outcome}
-use Rattle.command_core.proofs.Leaving.{leaves_then}
+use Rattle.command_laws.proofs.Begun.{IsUntouched, untouched_then, reads_first}
+use Rattle.command_laws.proofs.Booting.{one_outcome}
+use Rattle.world_runs.proofs.Leaving.{leaves_then}
 use Rattle.plain_machine.specs.declared.reply.Left.TheVariants.{Same, Gone, Unsure}
-use Rattle.command_core.proofs.Resuming.{IsAt, HasGoneOn, LeavesOff, FaultLeaves, begun, found, state_at, trace_of, step_more, first_entry, second_entry}
-use Rattle.command_core.proofs.Saved.{exactly, faults_stop}
-use Rattle.command_core.proofs.Traces.{counted_at, trace_counts, trace_short, header_over}
+use Rattle.command_laws.proofs.Resuming.{IsAt, HasGoneOn, LeavesOff, FaultLeaves, begun, found, state_at, trace_of, step_more, first_entry, second_entry}
+use Rattle.command_laws.proofs.Saved.{exactly, faults_stop}
+use Rattle.command_laws.proofs.Traces.{counted_at, trace_counts, trace_short, header_over}
 
 -- The event.
 
@@ -205,16 +205,16 @@ off_or_left : (r : Reply) (b : State) → LeavesOff r b → MayLeaveMark r ⊎ (
 off_or_left (reply.Compressed flags) b is = inl tt
 off_or_left r b is = inr is
 
-unmarked_off : (h : Hardware) (world : World) (c : disk.Content) (b : State) → StandsFor world c b → b ≡ off nothing None → EachImage c (λ w. Marked (hardware_of world) w → ⊥)
-unmarked_off h world c b stands is = (subst (StandsFor world c) is stands).stands.parts.held
+unmarked_off : (h : Hardware) (shown : WorldView) (c : disk.Content) (b : State) → Stands h shown c b → b ≡ off nothing None → EachImage c (λ w. Marked h w → ⊥)
+unmarked_off h shown c b stands is = (subst (Stands h shown c) is stands).parts.held
 
-unmarked_or_left : (h : Hardware) (world : World) (c : disk.Content) (r : Reply) (b : State) → hardware_of world ≡ h → StandsFor world c b → MayLeaveMark r ⊎ (b ≡ off nothing None) → MayLeaveMark r ⊎ EachImage c (λ w. Marked h w → ⊥)
-unmarked_or_left h world c r b hw stands (inl left) = inl left
-unmarked_or_left h world c r b hw stands (inr off') = inr (subst (λ (g : Hardware). EachImage c (λ w. Marked g w → ⊥)) hw (unmarked_off h world c b stands off'))
+unmarked_or_left : (h : Hardware) (shown : WorldView) (c : disk.Content) (r : Reply) (b : State) → Stands h shown c b → MayLeaveMark r ⊎ (b ≡ off nothing None) → MayLeaveMark r ⊎ EachImage c (λ w. Marked h w → ⊥)
+unmarked_or_left h shown c r b stands (inl left) = inl left
+unmarked_or_left h shown c r b stands (inr off') = inr (unmarked_off h shown c b stands off')
 
-gone_at : (h : Hardware) (m : Memory) (check : IdentCheck) (v : disk.DiskImage) (world : World) (c : disk.Content) (r : Reply) (b : State) (failed : Bool) → hardware_of world ≡ h → StandsFor world c b → EndsAs h m check v r b failed → MayLeaveMark r ⊎ EachImage c (λ w. Marked h w → ⊥)
-gone_at h m check v world c r b failed hw stands (inl fault) = unmarked_or_left h world c r b hw stands (fault_leaves r b fault.0 fault.2)
-gone_at h m check v world c r b failed hw stands (inr is) = unmarked_or_left h world c r b hw stands (off_or_left r b is.1)
+gone_at : (h : Hardware) (m : Memory) (check : IdentCheck) (v : disk.DiskImage) (shown : WorldView) (c : disk.Content) (r : Reply) (b : State) (failed : Bool) → Stands h shown c b → EndsAs h m check v r b failed → MayLeaveMark r ⊎ EachImage c (λ w. Marked h w → ⊥)
+gone_at h m check v shown c r b failed stands (inl fault) = unmarked_or_left h shown c r b stands (fault_leaves r b fault.0 fault.2)
+gone_at h m check v shown c r b failed stands (inr is) = unmarked_or_left h shown c r b stands (off_or_left r b is.1)
 
 answer_of : (h : Hardware) (m : Memory) (check : IdentCheck) (v : disk.DiskImage) (r : Reply) (b : State) (failed : Bool) → EndsAs h m check v r b failed → IsLast (trace_of h m check v) r ⊎ (EndsInFault r × (failed ≡ true))
 answer_of h m check v r b failed (inl fault) = inr (fault.0, fault.1)
@@ -239,24 +239,24 @@ shows_fault h m check v blocks (suc n) start end whole none is at (mid, are, goe
   | inl earlier ↦ absurd (false≢true (sym (faults_stop mid.reply (shows_fault h m check v blocks n start mid whole none is at are earlier)) ∙ goes))
 ]
 
-pub resumes : (h : Hardware) (m : Memory) (check : IdentCheck) (v : disk.DiskImage) (blocks : ℕ) (world : World) (start : Point) (ended : Ended) (now : Option disk.Content) → AreZones h.zones → hardware_of world ≡ h → disk.IsContent blocks (disk.settled v) → start.failed ≡ false → IsUntouched v start → IsAt h m check v 0 start.reply start.state start.failed → HasGone h world start ended now → HasResumed h m check v world.frames ended now
-resumes h m check v blocks world start ended now zones hw whole unfailed is at gone =
-    let made = gone.made in
-    let end = made.end in
-    let after = after_steps h m check v blocks gone.steps start end whole is at made.are in
-    let few = few_steps h m check v blocks gone.steps start end zones whole is at made.are in
+pub resumes : (h : Hardware) (m : Memory) (check : IdentCheck) (v : disk.DiskImage) (blocks : ℕ) (shown : WorldView) (start : Point) (ended : Ended) (told : Option disk.Content) (now : disk.Content) → AreZones h.zones → told ≡ Some now → disk.IsContent blocks (disk.settled v) → start.failed ≡ false → IsUntouched v start →
+    IsAt h m check v 0 start.reply start.state start.failed → HasGone h start ended shown now → HasResumed h m check v shown.frames ended told
+resumes h m check v blocks shown start ended told now zones says whole unfailed is at gone =
+    let end = gone.end in
+    let after = after_steps h m check v blocks gone.steps start end whole is at gone.are in
+    let few = few_steps h m check v blocks gone.steps start end zones whole is at gone.are in
     let over = over_at_last gone.steps ended.reply gone.over few in
-    let ends : EndsAs h m check v end.reply end.state end.failed = ends_at h m check v gone.steps end.reply end.state end.failed after.at (ap goes_on made.reply_is ∙ over) in
+    let ends : EndsAs h m check v end.reply end.state end.failed = ends_at h m check v gone.steps end.reply end.state end.failed after.at (ap goes_on gone.reply_is ∙ over) in
     let here : EndsAs h m check v ended.reply end.state ended.failed =
-    subst (λ (f : Bool). EndsAs h m check v ended.reply end.state f) made.failed_is (subst (λ (r : Reply). EndsAs h m check v r end.state end.failed) made.reply_is ends) in
+    subst (λ (f : Bool). EndsAs h m check v ended.reply end.state f) gone.failed_is (subst (λ (r : Reply). EndsAs h m check v r end.state end.failed) gone.reply_is ends) in
     record {
       content = end.content;
-      told = made.told;
+      told = says ∙ ap Some (sym gone.content_is);
       answer = exactly (IsLast (trace_of h m check v) ended.reply) ended.reply ended.failed (answer_of h m check v ended.reply end.state ended.failed here)
-          (λ failed. subst EndsInFault made.reply_is (shows_fault h m check v blocks gone.steps start end whole unfailed is at made.are (made.failed_is ∙ failed)));
+          (λ failed. subst EndsInFault gone.reply_is (shows_fault h m check v blocks gone.steps start end whole unfailed is at gone.are (gone.failed_is ∙ failed)));
       over = over;
-      restored = λ n resumed. sym made.frames ∙ restored_last h m check v blocks gone.steps n start end whole is at made.are (made.reply_is ∙ resumed);
-      gone = gone_at h m check v world end.content ended.reply end.state ended.failed hw made.stands here;
+      restored = λ n resumed. sym gone.frames ∙ restored_last h m check v blocks gone.steps n start end whole is at gone.are (gone.reply_is ∙ resumed);
+      gone = gone_at h m check v shown end.content ended.reply end.state ended.failed gone.stands here;
       unwritten = after.unwritten;
-      untouched = λ r cause b. (after.early (two_steps h m check v r blocks gone.steps start end cause whole is at made.are)).unwritten b;
+      untouched = λ r cause b. (after.early (two_steps h m check v r blocks gone.steps start end cause whole is at gone.are)).unwritten b;
     }

@@ -1,4 +1,4 @@
--- A whole hibernation: from the world before it to what it answers at the end.
+-- The steps of a hibernation, from its event to what it answers at the end.
 use Rattle.std.proofs.Common.{◌≡◌, ◌⊎◌, inl, inr, ◌≤◌, ℕ, ◌+◌, zero, suc, Bool, true, false, cond, length, map, filter, List, ◌∷◌, [], Option, Some, None, unwrap_or, refl, sym, ap, ◌∙◌, subst, arith, Contains}
 use Rattle.std.specs.List.{AllByRecursion}
 use Rattle.std.proofs.lemmas.Bool.{false≢true}
@@ -13,7 +13,8 @@ use Rattle.plain_machine.specs.Chain.{Holds, or_else}
 use Rattle.plain_machine.specs.Image.{Image, image_of_memory, n_of, d_of, hibernate_steps, has_data}
 use Rattle.plain_machine.specs.Machine.{Hardware, Memory, block_of_slot, saveable}
 use Rattle.plain_machine.specs.Refusals.{refusal, refused_if, busy, busy_task, busy_reply, closed, no_swap, no_frames, no_slots, hibernate_refusal}
-use Rattle.plain_machine.specs.Stands.{EachImage, laid_blocks}
+use Rattle.plain_machine.specs.Shows.{WorldView}
+use Rattle.plain_machine.specs.Stands.{EachImage, IsOwn, Stands, laid_blocks}
 use Rattle.plain_machine.specs.Calls.{undo_call}
 use Rattle.plain_machine.specs.State.{State, Running, off, on, hibernating, undoing, sure, own}
 use Rattle.plain_machine.specs.declared.event.Event.TheVariants as event
@@ -28,20 +29,18 @@ use Rattle.image_laws.proofs.Decoding.{few_saveable}
 use Rattle.protocol_laws.specs.Rows.{LeavesBlock, blocks_written, TellsNewFault}
 use Rattle.protocol_laws.proofs.Unwritten.{step_in_laid}
 use Rattle.protocol_laws.proofs.WrittenWhileHeld.{header_alone}
-use Rattle.world_core.specs.StandsFor.{StandsFor, hardware_of}
-use Rattle.world_core.specs.World.{World}
-use Rattle.command_core.specs.Runs.{HasHibernated}
-use Rattle.command_core.specs.Runs.{EndsInFault, goes_on, hibernation_answer, image_to_save}
-use Rattle.command_core.specs.Parts.{HasFailedEarly}
-use Rattle.command_core.specs.Turns.{Point, AreSteps, HasGone}
+use Rattle.command_laws.specs.Hibernations.{HasHibernated}
+use Rattle.command_core.specs.Runs.{goes_on}
+use Rattle.command_laws.specs.Hibernations.{EndsInFault, hibernation_answer, image_to_save}
+use Rattle.command_laws.specs.Points.{Point, AreSteps, HasGone}
 use Rattle.command_core.specs.declared.ending.Ended.{Ended}
-use Rattle.command_core.proofs.Begun.{IsUntouched}
-use Rattle.command_core.proofs.Hibernating.{IsAt, after_steps, few_steps, undoing_step}
-use Rattle.command_core.proofs.Leaving.{leaves_then}
+use Rattle.command_laws.proofs.Begun.{IsUntouched}
+use Rattle.command_laws.proofs.Hibernating.{IsAt, after_steps, few_steps, undoing_step}
+use Rattle.world_runs.proofs.Leaving.{leaves_then}
 
 -- Refusals of a hibernation are none of the replies of its steps.
 
-abbrev Refuses : Reply → Type 0
+abbrev pub Refuses : Reply → Type 0
 Refuses (reply.Busy t) = Unit {0}
 Refuses reply.Closed = Unit {0}
 Refuses (reply.NoSwap why) = Unit {0}
@@ -235,55 +234,53 @@ over_at_last : (steps n : ℕ) (r : Reply) → (goes_on r ≡ false) ⊎ (steps 
 over_at_last steps n r (inl over) few short = over
 over_at_last steps n r (inr most) few short = absurd (omega arith)
 
-holds_by : (world : World) (c : disk.Content) (b : State) (i : Image) → StandsFor world c b → b ≡ off (sure (own i)) None → EachImage c (λ w. Holds (hardware_of world) w i)
-holds_by world c b i stands is = λ w here. ((subst (StandsFor world c) is stands).stands.parts.held w here).0
+holds_by : (h : Hardware) (shown : WorldView) (c : disk.Content) (b : State) (i : Image) → Stands h shown c b → b ≡ off (sure (own i)) None → EachImage c (λ w. Holds h w i × IsOwn h w i)
+holds_by h shown c b i stands is = (subst (Stands h shown c) is stands).parts.held
 
 fault_no_end : (r : Reply) (n : ℕ) → EndsInFault r → r ≡ reply.Hibernated n → ⊥
 fault_no_end r n is e = subst EndsInFault e is
 
-image_at : (h : Hardware) (world : World) (c : disk.Content) (i : Image) (r : Reply) (b : State) (failed : Bool) (n : ℕ) → hardware_of world ≡ h → StandsFor world c b → EndsAs i r b failed → r ≡ reply.Hibernated n → EachImage c (λ w. Holds h w i)
-image_at h world c i r b failed n hw stands (inl is) e = subst (λ (g : Hardware). EachImage c (λ w. Holds g w i)) hw (holds_by world c b i stands is.1)
-image_at h world c i r b failed n hw stands (inr fault) e = absurd (fault_no_end r n fault.0 e)
+image_at : (h : Hardware) (shown : WorldView) (c : disk.Content) (i : Image) (r : Reply) (b : State) (failed : Bool) (n : ℕ) → Stands h shown c b → EndsAs i r b failed → r ≡ reply.Hibernated n → EachImage c (λ w. Holds h w i × IsOwn h w i)
+image_at h shown c i r b failed n stands (inl is) e = holds_by h shown c b i stands is.1
+image_at h shown c i r b failed n stands (inr fault) e = absurd (fault_no_end r n fault.0 e)
 
 answer_at : (h : Hardware) (a : Running) (f : Format) (v : disk.DiskImage) (r : Reply) (b : State) (failed : Bool) → refusal h (on a) (event.Hibernate f) ≡ None → EndsAs (image_to_save h a f) r b failed → (r ≡ hibernation_answer h a f) ⊎ (EndsInFault r × (failed ≡ true))
 answer_at h a f v r b failed none (inl is) = inl (is.0 ∙ sym (ap (λ (o : Option Reply). unwrap_or o (reply.Hibernated (n_of (image_to_save h a f)))) none))
 answer_at h a f v r b failed none (inr fault) = inr fault
 
 -- It was not refused.
-pub saves : (h : Hardware) (a : Running) (f : Format) (v : disk.DiskImage) (world : World) (start : Point) (ended : Ended) (now : Option disk.Content) → AreZones h.zones → hardware_of world ≡ h → start.failed ≡ false → IsUntouched v start → refusal h (on a) (event.Hibernate f) ≡ None →
-    IsAt (image_to_save h a f) a 0 start.reply start.state start.failed → HasGone h world start ended now → HasHibernated h a f v ended now
-saves h a f v world start ended now zones hw unfailed is none at gone =
+pub saves : (h : Hardware) (a : Running) (f : Format) (v : disk.DiskImage) (shown : WorldView) (start : Point) (ended : Ended) (told : Option disk.Content) (now : disk.Content) → AreZones h.zones → told ≡ Some now → start.failed ≡ false → IsUntouched v start → refusal h (on a) (event.Hibernate f) ≡ None →
+    IsAt (image_to_save h a f) a 0 start.reply start.state start.failed → HasGone h start ended shown now → HasHibernated h a f v ended told
+saves h a f v shown start ended told now zones says unfailed is none at gone =
     let i = image_to_save h a f in
-    let made = gone.made in
-    let end = made.end in
+    let end = gone.end in
     let few = few_saved h a.memory a.slots f zones in
-    let over = over_at_last gone.steps (hibernate_steps i) ended.reply gone.over (few_steps h i a gone.steps start end at made.are) (few_of i few.0 few.1) in
-    let ends : EndsAs i end.reply end.state end.failed = ends_at i a gone.steps end.reply end.state end.failed (after_steps h i a gone.steps start end at made.are) (ap goes_on made.reply_is ∙ over) in
-    let here : EndsAs i ended.reply end.state ended.failed = subst (λ (b : Bool). EndsAs i ended.reply end.state b) made.failed_is (subst (λ (r : Reply). EndsAs i r end.state end.failed) made.reply_is ends) in
+    let over = over_at_last gone.steps (hibernate_steps i) ended.reply gone.over (few_steps h i a gone.steps start end at gone.are) (few_of i few.0 few.1) in
+    let ends : EndsAs i end.reply end.state end.failed = ends_at i a gone.steps end.reply end.state end.failed (after_steps h i a gone.steps start end at gone.are) (ap goes_on gone.reply_is ∙ over) in
+    let here : EndsAs i ended.reply end.state ended.failed = subst (λ (b : Bool). EndsAs i ended.reply end.state b) gone.failed_is (subst (λ (r : Reply). EndsAs i r end.state end.failed) gone.reply_is ends) in
     record {
       content = end.content;
-      told = made.told;
+      told = says ∙ ap Some (sym gone.content_is);
       answer = exactly (ended.reply ≡ hibernation_answer h a f) ended.reply ended.failed (answer_at h a f v ended.reply end.state ended.failed none here)
-          (λ failed. fault_at_end ended.reply over (subst ShowsFault made.reply_is (shows_fault h i a gone.steps start end unfailed at made.are (made.failed_is ∙ failed))));
+          (λ failed. fault_at_end ended.reply over (subst ShowsFault gone.reply_is (shows_fault h i a gone.steps start end unfailed at gone.are (gone.failed_is ∙ failed))));
       over = over;
-      image = λ n hibernated. image_at h world end.content i ended.reply end.state ended.failed n hw made.stands here hibernated;
-      unwritten = (all_after h i a v gone.steps start end is at made.are).unwritten;
+      image = λ n hibernated. image_at h shown end.content i ended.reply end.state ended.failed n gone.stands here hibernated;
+      unwritten = (all_after h i a v gone.steps start end is at gone.are).unwritten;
       refused = λ r refused b. absurd (none-some r (sym none ∙ refused));
     }
 
 -- It was refused.
-pub refused : (h : Hardware) (a : Running) (f : Format) (v : disk.DiskImage) (world : World) (q : Reply) (start : Point) (ended : Ended) (now : Option disk.Content) → start.failed ≡ false → IsUntouched v start → refusal h (on a) (event.Hibernate f) ≡ Some q → start.reply ≡ q → HasGone h world start ended now → HasHibernated h a f v ended now
-refused h a f v world q start ended now unfailed is says same gone =
-    let made = gone.made in
+pub refused : (h : Hardware) (a : Running) (f : Format) (v : disk.DiskImage) (shown : WorldView) (q : Reply) (start : Point) (ended : Ended) (told : Option disk.Content) (now : disk.Content) → told ≡ Some now → start.failed ≡ false → IsUntouched v start → refusal h (on a) (event.Hibernate f) ≡ Some q → start.reply ≡ q → HasGone h start ended shown now → HasHibernated h a f v ended told
+refused h a f v shown q start ended told now here unfailed is says same gone =
     let refuses = refusal_refuses h f a q says in
     let over : goes_on start.reply ≡ false = ap goes_on same ∙ refuses_over q refuses in
-    let end : made.end ≡ start = none_after h gone.steps start made.end over made.are in
-    let answer : ended.reply ≡ q = sym made.reply_is ∙ ap (λ (p : Point). p.reply) end ∙ same in
-    let untouched : IsUntouched v made.end = subst (IsUntouched v) (sym end) is in
+    let end : gone.end ≡ start = none_after h gone.steps start gone.end over gone.are in
+    let answer : ended.reply ≡ q = sym gone.reply_is ∙ ap (λ (p : Point). p.reply) end ∙ same in
+    let untouched : IsUntouched v gone.end = subst (IsUntouched v) (sym end) is in
     record {
-      content = made.end.content;
-      told = made.told;
-      answer = inl (answer ∙ sym (ap (λ (o : Option Reply). unwrap_or o (reply.Hibernated (n_of (image_to_save h a f)))) says), sym made.failed_is ∙ ap (λ (p : Point). p.failed) end ∙ unfailed);
+      content = gone.end.content;
+      told = here ∙ ap Some (sym gone.content_is);
+      answer = inl (answer ∙ sym (ap (λ (o : Option Reply). unwrap_or o (reply.Hibernated (n_of (image_to_save h a f)))) says), sym gone.failed_is ∙ ap (λ (p : Point). p.failed) end ∙ unfailed);
       over = ap goes_on answer ∙ refuses_over q refuses;
       image = λ n hibernated. absurd (subst Refuses (sym answer ∙ hibernated) refuses);
       unwritten = λ b not. untouched.unwritten b;
@@ -291,13 +288,13 @@ refused h a f v world q start ended now unfailed is says same gone =
     }
 
 -- A call failed while it booted.
-pub failed_early : (h : Hardware) (a : Running) (f : Format) (v : disk.DiskImage) (ended : Ended) (now : Option disk.Content) → HasFailedEarly v ended now → HasHibernated h a f v ended now
-failed_early h a f v ended now early = record {
-  content = early.content;
-  told = early.told;
-  answer = inr (early.fault, early.failed);
-  over = faults_stop ended.reply early.fault;
-  image = λ n hibernated. absurd (fault_no_end ended.reply n early.fault hibernated);
-  unwritten = λ b not. early.unwritten b;
-  refused = λ r refused b. early.unwritten b;
+pub failed_early : (h : Hardware) (a : Running) (f : Format) (v : disk.DiskImage) (ended : Ended) (told : Option disk.Content) (p : Point) → told ≡ Some p.content → IsUntouched v p → EndsInFault ended.reply → ended.failed ≡ true → HasHibernated h a f v ended told
+failed_early h a f v ended told p says untouched fault failed = record {
+  content = p.content;
+  told = says;
+  answer = inr (fault, failed);
+  over = faults_stop ended.reply fault;
+  image = λ n hibernated. absurd (fault_no_end ended.reply n fault hibernated);
+  unwritten = λ b not. untouched.unwritten b;
+  refused = λ r refused b. untouched.unwritten b;
 }

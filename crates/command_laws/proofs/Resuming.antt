@@ -19,8 +19,9 @@ use Rattle.plain_machine.specs.declared.reply.Left.TheVariants.{Gone}
 use Rattle.plain_machine.specs.declared.reply.Reply.{Reply}
 use Rattle.plain_machine.specs.declared.reply.Reply.TheVariants as reply
 use Rattle.protocol_laws.specs.Rows.{TellsNewFault}
-use Rattle.command_core.specs.Runs.{EndsInFault, goes_on, held_at_first}
-use Rattle.command_core.proofs.Traces.{counted_at, trace_counts}
+use Rattle.command_core.specs.Runs.{goes_on, held_at_first}
+use Rattle.command_laws.specs.Hibernations.{EndsInFault}
+use Rattle.command_laws.proofs.Traces.{counted_at, trace_counts}
 use Rattle.protocol_laws.specs.TraceAt.{reply_at}
 use Rattle.protocol_laws.proofs.TraceAt.{traces_at}
 use Rattle.definitions.specs.SwapHeader.{flags_of}

@@ -1,5 +1,6 @@
--- Events of a command, one after another, by what the plain machine and the disk are at between them.
-use Rattle.std.specs.Prelude.{◌≡◌, ◌⊎◌, ◌≤◌, ℕ, zero, suc, Bool, true, false, Option, Some, Contains, ⊤}
+-- Events of a command, one after another, by what the plain machine and the disk are at between them, and whether a
+-- call of the disk has failed so far.
+use Rattle.std.specs.Prelude.{◌≡◌, ◌⊎◌, ℕ, zero, suc, Bool, true, false, Contains}
 use Rattle.definitions.specs.Disk as disk
 use Rattle.plain_machine.specs.Machine.{Hardware, Memory}
 use Rattle.plain_machine.specs.Shows.{WorldView}
@@ -13,8 +14,6 @@ use Rattle.plain_machine.specs.declared.reply.Reply.{Reply}
 use Rattle.plain_machine.specs.declared.reply.Reply.TheVariants as reply
 use Rattle.protocol_laws.specs.Rows.{IsSameArea, LeavesBlock, LeavesHeader, blocks_written, TellsNewFault}
 use Rattle.resume_core.specs.Restored.{restored_by}
-use Rattle.world_core.specs.StandsFor.{StandsFor}
-use Rattle.world_core.specs.World.{World}
 use Rattle.command_core.specs.Runs.{goes_on}
 use Rattle.command_core.specs.declared.ending.Ended.{Ended}
 
@@ -64,32 +63,16 @@ pub record IsLeftInside (h : Hardware) (start : Point) (w : disk.DiskImage) : Ty
   pub turn : IsTurn h (event.Step actor.Core) before after
   pub mixed : disk.IsMixture before.content after.content w
 
--- So time goes on over such steps: `past` and `since` are what a crash since a moment might have left, before them and
--- after.
-pub record Elapsed (h : Hardware) (start : Point) (before now : ℕ) (past since : ℕ → disk.DiskImage →
-    Type 0) : Type 0 where
-  pub later : before ≤ now
-  pub nothing_else : (t : ℕ) (w : disk.DiskImage) → t ≤ before → since t w → past t w ⊎ IsLeftInside h start w
-
--- A crash since that moment leaves this image, and no other.
-pub record IsStill (before now : ℕ) (since : ℕ → disk.DiskImage → Type 0) (v : disk.DiskImage) : Type 0 where
-  pub later : before ≤ now
-  pub same : (w : disk.DiskImage) → since before w → w ≡ v
-
--- so many steps from this point on have led to this reply, and to what the world and the disk stand for
-pub record HaveMade (h : Hardware) (world : World) (start : Point) (steps : ℕ) (r : Reply) (failed : Bool)
-    (now : Option disk.Content) : Type 0 where
-  pub end : Point
-  pub told : now ≡ Some end.content
-  pub reply_is : end.reply ≡ r
-  pub failed_is : end.failed ≡ failed
-  pub stands : StandsFor world end.content end.state
-  pub frames : end.frames ≡ world.frames
-  pub are : AreSteps h steps start end
-
--- The steps from this point on have led to the end: nothing is left to do there, or it is step 66,000.
-pub record HasGone (h : Hardware) (world : World) (start : Point) (ended : Ended)
-    (now : Option disk.Content) : Type 0 where
+-- So many steps from this point on have led to the end, which is shown so, over what the disk then holds. Nothing is
+-- left to do there, or it is step 66,000.
+pub record HasGone (h : Hardware) (start : Point) (ended : Ended) (shown : WorldView)
+    (now : disk.Content) : Type 0 where
   pub steps : ℕ
-  pub made : HaveMade h world start steps ended.reply ended.failed now
+  pub end : Point
+  pub are : AreSteps h steps start end
+  pub reply_is : end.reply ≡ ended.reply
+  pub failed_is : end.failed ≡ ended.failed
+  pub stands : Stands h shown end.content end.state
+  pub frames : end.frames ≡ shown.frames
+  pub content_is : end.content ≡ now
   pub over : (goes_on ended.reply ≡ false) ⊎ (steps ≡ 66000)

@@ -88,12 +88,12 @@ few_calls_of_drill number x x' status few (drills.summed is) =
 -- by a hibernation, and by a resume, at most once for each step of its run
 pub few_calls_of_hibernation : {X : Type 0} (D : Ghosts X) (before after : X) (f : Format) (size : Option ℕ) (x x' : View) (status : Status) (dump : DumpValue) (ended : Ended) → HasAnswered D before after f size x x' status dump ended → D.calls after ≤ D.calls before + 66002
 few_calls_of_hibernation D before after f size x x' status dump ended is =
-    let few = hibernation_few f size ended.reply is.ran.0 is.ran.1 is.ran.2 in
+    let few = hibernation_few f size ended is.ran.0 is.ran.1 is.ran.2 in
     let calls = is.ran.3.calls in
     omega arith
 
 pub few_calls_of_resume : {X : Type 0} (D : Ghosts X) (before after : X) (check : IdentCheck) (x x' : View) (status : Status) (dump : DumpValue) (ended : Ended) → HasLoaded D before after check x x' status dump ended → D.calls after ≤ D.calls before + 66000
 few_calls_of_resume D before after check x x' status dump ended is =
-    let few = resumption_few check ended.reply is.ran.0 is.ran.1 is.ran.2 in
+    let few = resumption_few check ended is.ran.0 is.ran.1 is.ran.2 in
     let calls = is.ran.3.calls in
     omega arith

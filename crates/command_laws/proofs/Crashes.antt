@@ -1,7 +1,6 @@
 -- What a crash inside a hibernation or a resume may leave.
 use Rattle.std.proofs.Common.{◌≡◌, ◌≢◌, ◌⊎◌, inl, inr, ◌<◌, ℕ, ◌+◌, ◌/◌, zero, suc, false, List, [], ◌∷◌, length, slice_index_or, Option, Some, None, refl, sym, ap, ◌∙◌, subst, arith, Contains}
 use Rattle.std.specs.Cmp.Lexicographic.{same_text, other_text}
-use Rattle.std.specs.Option.{IfSome}
 use Rattle.std.specs.List.{AllByRecursion}
 use Rattle.std.proofs.lemmas.Bool.{cases_Bool, cases_eq, cases_lt, false≢true}
 use Rattle.std.proofs.lemmas.List.Elements.{All-from_recursion, All-contains}
@@ -28,19 +27,19 @@ use Rattle.protocol_laws.specs.Rows.{LeavesBlock, LeavesHeader, blocks_written, 
 use Rattle.protocol_laws.proofs.Back.{held_before, held_behind, before_mark}
 use Rattle.protocol_laws.proofs.Unwritten.{mark_at, none_past}
 use Rattle.protocol_laws.proofs.Inside.{left_candidate, image_left, images_left, mark_inside, undo_inside, none_marked, AreTakenBack, taken_inside, taken_itself, taken_after}
-use Rattle.command_core.specs.Turns.{Point, StandsAt, IsTurn, AreSteps, IsLeftInside, IsStill}
+use Rattle.command_laws.specs.Points.{Point, StandsAt, IsTurn, AreSteps, IsLeftInside}
 use Rattle.command_core.specs.Runs.{goes_on}
-use Rattle.command_core.proofs.Begun.{IsUntouched}
-use Rattle.command_core.proofs.Hibernating.{IsAt, after_steps, hibernating_step, before_end}
-use Rattle.command_core.proofs.Loaded.{early_writes, goes_state, after_steps as loaded_after, IsAfter, header_alone as load_writes}
-use Rattle.command_core.proofs.Leaving.{inside_of}
-use Rattle.command_core.proofs.Points.{each_same, told_both}
-use Rattle.command_core.proofs.Resuming.{IsAt as LoadsAt, state_at}
-use Rattle.command_core.proofs.Saved.{IsWrittenAt, state_of, all_after, refuses_over, refusal_refuses, none_after}
+use Rattle.command_laws.proofs.Begun.{IsUntouched}
+use Rattle.command_laws.proofs.Hibernating.{IsAt, after_steps, hibernating_step, before_end}
+use Rattle.command_laws.proofs.Loaded.{early_writes, goes_state, after_steps as loaded_after, IsAfter, header_alone as load_writes}
+use Rattle.world_runs.proofs.Leaving.{inside_of}
+use Rattle.command_laws.proofs.Points.{each_same}
+use Rattle.command_laws.proofs.Resuming.{IsAt as LoadsAt, state_at}
+use Rattle.command_laws.proofs.Saved.{IsWrittenAt, state_of, all_after, refuses_over, refusal_refuses, none_after}
 
 -- What stands for a state says of its disk.
 
-held_by : (h : Hardware) (shown : WorldView) (c : disk.Content) (a : State) → Stands h shown c a → IsHeld h c (held_in a)
+pub held_by : (h : Hardware) (shown : WorldView) (c : disk.Content) (a : State) → Stands h shown c a → IsHeld h c (held_in a)
 held_by h shown c (off held kept) stands = stands.parts.held
 held_by h shown c (on a) stands = stands.parts.disk.held
 held_by h shown c (booting from dump held k) stands = stands.parts.held
@@ -51,7 +50,7 @@ held_by h shown c (waking i held a k) stands = stands.parts.behind.held
 held_by h shown c (loading load k) stands = stands.parts.held
 held_by h shown c (asleep i held a) stands = stands.parts.behind.held
 
-header_by : (h : Hardware) (shown : WorldView) (c : disk.Content) (a : State) → Stands h shown c a → IsHeader h c
+pub header_by : (h : Hardware) (shown : WorldView) (c : disk.Content) (a : State) → Stands h shown c a → IsHeader h c
 header_by h shown c (off held kept) stands = stands.parts.header
 header_by h shown c (on a) stands = stands.parts.disk.header
 header_by h shown c (booting from dump held k) stands = stands.parts.header
@@ -212,7 +211,7 @@ saves_inside h i a v w start untouched stands at is =
 -- A resume.
 
 -- over as many blocks each image is v, but for block(0), which is as it was or taken back
-record IsTaken (h : Hardware) (v : disk.DiskImage) (blocks : ℕ) (p : Point) : Type 0 where
+pub record IsTaken (h : Hardware) (v : disk.DiskImage) (blocks : ℕ) (p : Point) : Type 0 where
   pub whole : disk.IsContent blocks p.content
   pub taken : AreTakenBack h v p.content
 
@@ -249,7 +248,7 @@ taken_turn h m check v blocks (suc (suc zero)) p q first is was state turn =
     }
 taken_turn h m check v blocks (suc (suc (suc n))) p q first is was state turn = taken_left h blocks v p q was turn (later_writes h m check v n p.state state)
 
-taken_steps : (h : Hardware) (m : Memory) (check : IdentCheck) (v : disk.DiskImage) (blocks n : ℕ) (start end : Point) → disk.IsContent blocks (disk.settled v) → IsUntouched v start → LoadsAt h m check v 0 start.reply start.state start.failed → AreSteps h n start end → IsTaken h v blocks end
+pub taken_steps : (h : Hardware) (m : Memory) (check : IdentCheck) (v : disk.DiskImage) (blocks n : ℕ) (start end : Point) → disk.IsContent blocks (disk.settled v) → IsUntouched v start → LoadsAt h m check v 0 start.reply start.state start.failed → AreSteps h n start end → IsTaken h v blocks end
 taken_steps h m check v blocks zero start end first untouched at are = subst (IsTaken h v blocks) (sym are) (untouched_taken h blocks v start first untouched)
 taken_steps h m check v blocks (suc n) start end first untouched at (mid, are, goes, turn) =
     let there = loaded_after h m check v blocks n start mid first untouched at are in
@@ -276,21 +275,7 @@ still_inside blocks now v w c c' whole after size left left' mixed =
       ];
     })
 
-pub still_then : (blocks now m0 m m' : ℕ) (v : disk.DiskImage) (before' now' : Option disk.Content) (c c' : disk.Content) (past since : ℕ → disk.DiskImage → Type 0) → before' ≡ Some c → now' ≡ Some c' → disk.IsContent blocks c → disk.IsContent now c' → length v ≡ length c →
-    ((b : ℕ) → LeavesBlock b (disk.settled v) c) → ((b : ℕ) → LeavesBlock b (disk.settled v) c') → IsStill m0 m past v → disk.Changes (disk.Elapses m m' past since) before' now' → IsStill m0 m' since v
-still_then blocks now m0 m m' v before' now' c c' past since is at whole after size left left' so_far changes =
-    let step = told_both (disk.Elapses m m' past since) before' now' c c' is at changes in
-    let earlier = so_far.later in
-    let later = step.later in
-    record {
-      later = omega arith;
-      same = λ w gone. elim (step.nothing_else m0 w (omega arith) gone) [
-        | inl was ↦ so_far.same w was
-        | inr mixed ↦ still_inside blocks now v w c c' whole after size left left' mixed
-      ];
-    }
-
-pub same_length : (first blocks : ℕ) (v : disk.DiskImage) (c : disk.Content) → disk.IsContent first (disk.settled v) → disk.IsContent blocks c → blocks_of (disk.as_it_reads c) ≡ blocks_of v → length v ≡ length c
+same_length : (first blocks : ℕ) (v : disk.DiskImage) (c : disk.Content) → disk.IsContent first (disk.settled v) → disk.IsContent blocks c → blocks_of (disk.as_it_reads c) ≡ blocks_of v → length v ≡ length c
 same_length first blocks v c is whole same =
     let n = is.size in
     let m = whole.size in
@@ -298,18 +283,9 @@ same_length first blocks v c is whole same =
     let reads = length-as_it_reads c in
     omega arith
 
--- an event over a disk on which nothing was written, that writes nothing
-pub still_untouched : (first now m0 m m' : ℕ) (v : disk.DiskImage) (before' now' : Option disk.Content) (p : Point) (c' : disk.Content) (past since : ℕ → disk.DiskImage → Type 0) → disk.IsContent first (disk.settled v) → IsUntouched v p → before' ≡ Some p.content → now' ≡ Some c' → disk.IsContent now c' →
-    ((b : ℕ) → LeavesBlock b (disk.settled v) c') → IsStill m0 m past v → disk.Changes (disk.Elapses m m' past since) before' now' → IsStill m0 m' since v
-still_untouched first now m0 m m' v before' now' p c' past since whole is told at after left so_far changes =
-    still_then is.blocks now m0 m m' v before' now' p.content c' past since told at is.whole after (same_length first is.blocks v p.content whole is.whole is.same) is.unwritten left so_far changes
-
--- so it is at first
-pub still_first : (m : ℕ) (past : ℕ → disk.DiskImage → Type 0) (told : Option disk.Content) (v : disk.DiskImage) → told ≡ Some (disk.settled v) → ((w : disk.DiskImage) → past m w → IfSome told (λ c. disk.IsImage c w)) → IsStill m m past v
-still_first m past told v is only = record {
-  later = omega arith;
-  same = λ w left. IsImage-settled v w (subst (λ (o : Option disk.Content). IfSome o (λ c. disk.IsImage c w)) is (only w left));
-}
+pub untouched_inside : (first : ℕ) (v w : disk.DiskImage) (p q : Point) → disk.IsContent first (disk.settled v) → IsUntouched v p → IsUntouched v q → disk.IsMixture p.content q.content w → w ≡ v
+untouched_inside first v w p q whole was is mixed =
+    still_inside was.blocks is.blocks v w p.content q.content was.whole is.whole (same_length first was.blocks v p.content whole was.whole was.same) was.unwritten is.unwritten mixed
 
 -- A hibernation that was refused makes no step.
 pub never_inside : {A : Type 0} (h : Hardware) (a : Running) (f : Format) (q : Reply) (start : Point) (w : disk.DiskImage) → refusal h (on a) (event.Hibernate f) ≡ Some q → start.reply ≡ q → IsLeftInside h start w → A

@@ -1,0 +1,13 @@
+pub mod Booting
+pub mod Points
+pub mod Begun
+pub mod Hibernating
+pub mod Traces
+pub mod Resuming
+pub mod Saved
+pub mod Loaded
+pub mod Crashes
+pub mod Walking
+pub mod Ending
+pub mod Hibernated
+pub mod Resumed

@@ -1,0 +1,3 @@
+pub mod Hibernations
+pub mod Resumptions
+pub mod Points

@@ -1,0 +1,2 @@
+//! Laws of the runs of the commands: what a hibernation and a resume of a dump's machine come to.
+#![tactic(auto)]

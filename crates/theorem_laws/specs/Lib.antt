@@ -1,0 +1,6 @@
+pub mod Crashes
+pub mod Marks
+pub mod LoadEnds
+pub mod Cycle
+pub mod Completes
+pub mod ComesBack

@@ -1,0 +1,34 @@
+-- How a resume ends: it succeeds, or names a call of the device that failed, or too few page frames of the loader, or
+-- what the bytes of the disk show. In Linux: software_resume, kernel/power/hibernate.c, says the first three alike.
+use Rattle.std.specs.Prelude.{◌≡◌, ◌⊎◌, ℕ, Contains, ⊤}
+use Rattle.definitions.specs.Disk as disk
+use Rattle.plain_machine.specs.Machine.{Hardware}
+use Rattle.plain_machine.specs.State.{Load, Found, not_yet, found_own, found_other}
+use Rattle.plain_machine.specs.Trace.{trace}
+use Rattle.plain_machine.specs.declared.reply.Reply.{Reply}
+use Rattle.plain_machine.specs.declared.reply.Reply.TheVariants as reply
+use Rattle.command_laws.specs.Hibernations.{EndsInFault}
+
+abbrev pub IsLoading : Reply → Type 0
+IsLoading r = (k : ℕ) × (r ≡ reply.Loading k)
+
+abbrev pub HasResumed : Reply → Type 0
+HasResumed r = (n : ℕ) × (r ≡ reply.Resumed n)
+
+abbrev pub NamesTooFewFrames : Reply → Type 0
+NamesTooFewFrames r = (free : ℕ) × (need : ℕ) × (r ≡ reply.TooFewLoaderFrames free need)
+
+-- what the bytes of the disk v show: no mark, or the reply of its trace
+abbrev pub NamesBytes : Hardware → Load → disk.DiskImage → Reply → Type 0
+NamesBytes h load v r = (r ≡ reply.NoImage) ⊎ Contains (trace h load.dump v load.loader load.check) r
+
+-- those of the disk that the second step found, where it was another machine's image, or else of the disk as it reads
+abbrev pub disk_found : disk.DiskImage → Found → disk.DiskImage
+disk_found v not_yet = v
+disk_found v (found_own i) = v
+disk_found v (found_other w) = w
+
+-- it goes on, or ends so
+abbrev pub NamesItsEnd : Hardware → disk.DiskImage → Load → Reply → Type 0
+NamesItsEnd h v load r =
+    IsLoading r ⊎ HasResumed r ⊎ EndsInFault r ⊎ NamesTooFewFrames r ⊎ NamesBytes h load (disk_found v load.found) r
