@@ -1,7 +1,7 @@
 """Compressed images, written as save_image_lzo of kernel/power/swap.c does, and read.
 
 The info page stands by itself. The pages that follow it in the plain image are cut into units of 32, the last one may have fewer. A unit is
-eight bytes with the length of its compressed bytes, these bytes, and zeros up to a whole page; the chain of maps names its pages behind the info
+eight bytes with the length of its compressed bytes, these bytes, and zeros up to a whole page; the chain of maps names its pages after the info
 page's. With flag 4 the header has the kernel's crc32_le of all bytes of the units before they are compressed.
 """
 import itertools
@@ -16,7 +16,7 @@ from lzo1x import Match
 UNIT_PAGES = 32
 UNIT = UNIT_PAGES * PAGE
 CRC32 = 4
-# LZO_CMP_SIZE of kernel/power/swap.c without the header's eight bytes: the most that a compressor makes of a unit, and what it may use behind it.
+# LZO_CMP_SIZE of kernel/power/swap.c without the header's eight bytes: the most that a compressor makes of a unit, and what it may use after it.
 MOST = UNIT + UNIT // 16 + 64 + 3 + 2
 
 
@@ -65,7 +65,7 @@ class Compressed(Built):
         self.put(self.header, 4060, struct.pack("<I", self.checksum))
 
     def put_stream(self, k, content):
-        """Other bytes for unit k, behind their length; the checksum stays that of the pages."""
+        """Other bytes for unit k, after their length; the checksum stays that of the pages."""
         self.streams[k] = content
         self.lay(self.last)
 

@@ -330,7 +330,7 @@ def test_lengths_that_no_unit_has():
         built = twin(Built(600))
         built.put_length(k, length)
         check_unread(built, f"{built.place(k)}: length {length}")
-    # The first page of the second unit stands behind the first map.
+    # The first page of the second unit stands after the first map.
     built = twin(Built(958), packed=stored_first(15))
     built.put_length(29, 0)
     check_unread(built, "unit 30 map 1 block 1 entry 510: length 0")
@@ -339,7 +339,7 @@ def test_lengths_that_no_unit_has():
     check_unread(built, f"unit 31 map 2 block {built.maps[1]} entry 0: length 0")
 
 
-# A stream behind the literals of a first run, the byte of the fault and why it is none.
+# A stream after the literals of a first run, the byte of the fault and why it is none.
 FAULTS = [
     (bytes([17]), 4, lzo1x.TOO_SHORT),
     (b"", 4, lzo1x.TOO_SHORT),

@@ -1,6 +1,6 @@
-"""Power cuts behind each step of a hibernation, of a page that goes out, and of a resume, by what the sectors that aren't synced keep.
+"""Power cuts after each step of a hibernation, of a page that goes out, and of a resume, by what the sectors that aren't synced keep.
 
-Just where the signature sector is on the disk behind the cut an image is there; it is resumed once, and gives back the word in memory and
+Just where the signature sector is on the disk after the cut an image is there; it is resumed once, and gives back the word in memory and
 the page in its slot.
 """
 from harness import ALL, MARK, NONE, Play, counts
@@ -20,9 +20,9 @@ def later(word):
     return word ^ 1
 
 
-def steps_made(before, steps, behind, end):
+def steps_made(before, steps, after, end):
     """A line for each step, the first of them the event's own, and `end` for the last step of all."""
-    return counts(before, 0, min(steps, STEPS - 1), behind) + ([end] if steps == STEPS else [])
+    return counts(before, 0, min(steps, STEPS - 1), after) + ([end] if steps == STEPS else [])
 
 
 class Cuts(Play):
@@ -66,14 +66,14 @@ class Cuts(Play):
         self.is_cut(NONE)
 
     def hibernations(self, pick):
-        """The power is cut behind each step of a hibernation. From step 13 on the mark is written, and from 14 on it is synced."""
+        """The power is cut after each step of a hibernation. From step 13 on the mark is written, and from 14 on it is synced."""
         for steps in range(1, STEPS + 1):
             self.hibernates(pick, steps)
             self.is_cut(pick)
             self.ends(pick, steps == 14 or steps == 13 and pick & MARK != 0)
 
     def outs(self, pick):
-        """The power is cut before and behind the write of a page to its slot: no image is there, and nobody has the slot."""
+        """The power is cut before and after the write of a page to its slot: no image is there, and nobody has the slot."""
         for steps in ["", "> step 3\nwritten 1"]:
             self.boots()
             self.turn("claim 3 10", "ok")
@@ -83,7 +83,7 @@ class Cuts(Play):
             self.ends(pick, False)
 
     def resumes(self, pick):
-        """The power is cut behind each step of a resume. From step 3 on the mark is taken back, and from 4 on that is synced."""
+        """The power is cut after each step of a resume. From step 3 on the mark is taken back, and from 4 on that is synced."""
         for steps in range(1, STEPS + 1):
             self.hibernates(pick, STEPS)
             self.loads(steps)

@@ -169,7 +169,7 @@ def test_too_few_page_frames():
 # A marked header block whose original signature is the mark's own: taken back it is marked still. That an image is resumed at most once has
 # the premise that no such block is handed in. What is wrong with the image is told all the same.
 
-# S1SUSPEND and a zero byte from 4076 on, and the first two bytes of the mark behind them, which are the same.
+# S1SUSPEND and a zero byte from 4076 on, and the first two bytes of the mark after them, which are the same.
 MARKED = [(0, 4076, 0x55533153), (0, 4080, 0x4E455053), (0, 4084, 0x31530044)]
 
 

@@ -99,7 +99,7 @@ def test_each_byte_of_the_front():
 
 
 def test_each_byte_of_a_file_map():
-    """And the number of records behind it."""
+    """And the number of records after it."""
     check_each_byte(tiny(FILE_MAP), [
         (432, 436, "Extent byte 432"),
         (436, 440, "Extent byte 436"),

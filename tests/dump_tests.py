@@ -147,7 +147,7 @@ def test_the_image_of_what_is_left():
 
 
 def test_the_first_are_dropped():
-    """The page frames from below are dropped first: of the last one the page is in the image, behind those that are no cache. The map lies in
+    """The page frames from below are dropped first: of the last one the page is in the image, after those that are no cache. The map lies in
     block 1, the info page and the numbers in 2 and 3, then page frames 0, 1, 2, 10 and 29: 3 is all zero."""
     with area() as swap:
         check_line(hibernate(swap, CACHED, "--image-size", 6, "--skip-zeros"), "hibernated 6")

@@ -89,10 +89,10 @@ class Faults(Play):
         self.turn("boot\nsteps core 2", "more 0 of 2", "more 1 of 2", "booted image no")
         self.turn("claim 3 10\nstore 3 10 0 77", "ok", "ok")
 
-    def ends(self, before, first, behind, end):
+    def ends(self, before, first, after, end):
         """The steps before the one that fails, how the operation ends, and that nothing is left to do."""
         idle = ["idle"] * (ALL_STEPS - (first - 1) - len(end))
-        self.turn(f"steps core {ALL_STEPS}", *counts(before, 1, first - 1, behind), *end, *idle)
+        self.turn(f"steps core {ALL_STEPS}", *counts(before, 1, first - 1, after), *end, *idle)
 
     def fails_to_hibernate(self, first, count, pick, end):
         """A hibernation whose calls from number `first` on fail, and how it ends. Of those that write, the sectors of the pick take their
@@ -152,7 +152,7 @@ def test_each_two_calls_of_a_hibernation():
 
 
 def test_each_moment_behind_a_call_that_fails():
-    """The power is cut behind the step that failed, and behind each step of its undo: the image is there only where the sync behind the mark
+    """The power is cut after the step that failed, and after each step of its undo: the image is there only where the sync after the mark
     has failed and the cut keeps the mark, until the undo has written."""
     play = Faults()
     for first in range(1, STEPS + 1):
@@ -188,7 +188,7 @@ ENDS_OF_RESUMES = {
 
 
 def is_there(first, written, keeps):
-    """Whether the image is there behind a resume whose call number `first` failed, and a cut that keeps the last bytes of all sectors or of
+    """Whether the image is there after a resume whose call number `first` failed, and a cut that keeps the last bytes of all sectors or of
     none. Up to the read nothing was written. The write that takes the mark back has left every sector or none, and no sync followed."""
     return {1: True, 2: True, 3: not (written and keeps), 4: not keeps}.get(first, False)
 
@@ -228,7 +228,7 @@ HIBERNATES = """
     more 0 of 15
 """
 
-# The sync behind the mark's write fails, and then the write that takes the mark back: the machine runs, and an image is perhaps held.
+# The sync after the mark's write fails, and then the write that takes the mark back: the machine runs, and an image is perhaps held.
 IS_UNSURE = HIBERNATES + """
     > arm 15 2 0
     ok

@@ -64,9 +64,9 @@ def check_replay(script, text, status=0, note=""):
     check(run("swsusp", "replay", stdin=script.encode()), status, text.encode(), note)
 
 
-def counts(before, first, last, behind=""):
+def counts(before, first, last, after=""):
     """A reply for each number from `first` to `last`."""
-    return [f"{before}{k}{behind}" for k in range(first, last + 1)]
+    return [f"{before}{k}{after}" for k in range(first, last + 1)]
 
 
 def replies_of(line):
@@ -88,7 +88,7 @@ class Play:
         self.text += "".join(reply + "\n" for reply in replies)
 
     def tells(self, transcript):
-        """A transcript: a line of the script behind each `> `, and below it what it is to print."""
+        """A transcript: a line of the script after each `> `, and below it what it is to print."""
         for line in filter(None, map(str.strip, transcript.splitlines())):
             if line.startswith("> "):
                 self.turn(line[2:])
@@ -100,7 +100,7 @@ class Play:
 
 
 def check_transcript(*transcripts):
-    """The replay of the lines behind `> ` prints just the other lines."""
+    """The replay of the lines after `> ` prints just the other lines."""
     play = Play()
     for transcript in transcripts:
         play.tells(transcript)

@@ -65,7 +65,7 @@ def check_fresh(dump, bad=(0,)):
 
 
 def test_the_image_of_a_dump():
-    """The loader has the dump's hardware, but for its tables: they lie behind those of the image, whose page frames are 0 to 3 and 10."""
+    """The loader has the dump's hardware, but for its tables: they lie after those of the image, whose page frames are 0 to 3 and 10."""
     with area() as file:
         check_same("a hibernation", run("swsusp", "hibernate", file.path, stdin=EXAMPLE.saved())[0], 0)
         before = file.bytes()
@@ -147,7 +147,7 @@ def test_the_least_machine():
 
 
 def test_tables_around_saved_page_frames():
-    """The frame table needs two page frames, and finds them behind page frame 1; the slot table lies in page frame 0."""
+    """The frame table needs two page frames, and finds them after page frame 1; the slot table lies in page frame 0."""
     built = Sized(2048, saved=1)
     built.put(built.places[1], 0, struct.pack("<Q", 1))
     dump = made(ran_over(built))

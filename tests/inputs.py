@@ -68,7 +68,7 @@ def disk(blocks, first=ZERO_PAGE, at=0):
 
 
 def area(last=1599):
-    """An area up to this slot, and no block behind it."""
+    """An area up to this slot, and no block after it."""
     return disk(last + 1, header(last))
 
 
@@ -76,7 +76,7 @@ NAMES = [b"Linux", b"machine", b"6.1.0", b"#1", b"plain", b"(none)"]
 
 
 class Machine:
-    """The hardware of a dump: page frames from 0 on, with the frame table in the first of them and the slot table behind it. Without
+    """The hardware of a dump: page frames from 0 on, with the frame table in the first of them and the slot table after it. Without
     extents each slot lies on the block of its number."""
 
     def __init__(self, frames=2048, slots=1600, hw_sig=0, extents=()):

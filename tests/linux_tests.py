@@ -57,7 +57,7 @@ def records_of(name):
 
 @functools.cache
 def with_made_up_pages(name):
-    """The blocks of a compressed image with made-up pages, and what stands behind its info page: of a unit that the kernel's own bytes are packed of,
+    """The blocks of a compressed image with made-up pages, and what stands after its info page: of a unit that the kernel's own bytes are packed of,
     what these expand to; of each other the number pages and made-up ones, in a stream as long as the kernel's, of which the checksum is."""
     blocks, number_pages = records_of(name)
     with tempfile.NamedTemporaryFile() as file:
@@ -137,7 +137,7 @@ def looked(file, command, *more, offset=None):
 
 
 def stream_of(image):
-    """What stands behind the marks of an image, page by page."""
+    """What stands after the marks of an image, page by page."""
     return b"".join([image.info, *image.pages_behind_info()])
 
 
@@ -169,7 +169,7 @@ def test_headers_that_are_inspected():
 
 
 def test_bad_and_used_slots_that_are_left_alone():
-    """No block of the image lies in a bad slot or in one that a task had, and the map lies behind them."""
+    """No block of the image lies in a bad slot or in one that a task had, and the map lies after them."""
     with area("used_bad") as (_, image):
         bad = reader.bad_pages(image.header)
         check_same("the bad slots", len(bad), 7)
@@ -209,7 +209,7 @@ def test_areas_that_are_not_written_over():
 
 
 def test_streams_of_real_images():
-    """What stands behind an image's marks is a stream, as /dev/snapshot hands it out. Another area takes it, and it is resumed there."""
+    """What stands after an image's marks is a stream, as /dev/snapshot hands it out. Another area takes it, and it is resumed there."""
     for name in PLAIN:
         with area(name) as (file, image):
             stream, dump = stream_of(image), loader_of(image)

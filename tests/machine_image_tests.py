@@ -41,7 +41,7 @@ def check_machine(dump, saved, bad=(0,)):
 
 
 def test_the_machine_with_new_tables():
-    """Page frames 0 to 3 and 10 are saved: the tables lie behind the first ones, and a hibernation saves them beside."""
+    """Page frames 0 to 3 and 10 are saved: the tables lie after the first ones, and a hibernation saves them beside."""
     saved = {p: EXAMPLE.saved_pages().get(p, bytes(PAGE)) for p in [0, 1, 2, 3, 10]}
     with area() as file, area() as other:
         hibernate(file, EXAMPLE.saved())

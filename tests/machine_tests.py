@@ -141,7 +141,7 @@ def check_shown(dump, text):
 
 
 def with_names(dump, names):
-    """The dump with these six names: they lie behind its mark and six numbers."""
+    """The dump with these six names: they lie after its mark and six numbers."""
     return dump[:32] + b"".join(name.ljust(65, b"\0") for name in names) + dump[422:]
 
 
@@ -282,7 +282,7 @@ def test_a_picture_of_a_cut_that_leaves_the_image():
 
 
 def test_a_picture_of_calls_that_fail():
-    """The third call of a hibernation, the page of a task, and the sync behind a mark, which is undone."""
+    """The third call of a hibernation, the page of a task, and the sync after a mark, which is undone."""
     _, uses, columns = draw("boot\nsteps core 2\nclaim 3 10\narm 3 1 0\nhibernate\nsteps core 3\nout 3 10\narm 1 1 0\nstep 3\n")
     check_same("a page", uses[-4:-2] + uses[-1:], [drawn("on", "runs", "none", "write", "fails"), drawn("on", "runs", "none", "event"),
                drawn("on", "runs", "none", "write", "fails", "event")])

@@ -63,6 +63,10 @@ def test_the_largest_machine_that_uses_a_few_page_frames():
     check_replay(8, LARGEST + BOOT + "claim 1 60000\nstore 1 60000 0 7\n")
 
 
+def test_a_resume_whose_loader_holds_all_page_frames():
+    check_replay(8, LARGEST + BOOT + "hibernate\nsteps core 200\nresume 0-65535\nsteps core 30\n")
+
+
 def test_a_dump_of_the_largest_machine_that_uses_a_few_page_frames():
     script = LARGEST + BOOT + "claim 1 60000\nstore 1 60000 0 7\n"
     dump = run("swsusp_machine", "make", stdin=script.encode())[1]

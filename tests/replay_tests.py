@@ -78,7 +78,7 @@ def test_faulty_scripts():
 
 
 def test_a_thin_run():
-    """Meanwhile nothing is stored, and behind the resume the word is there again."""
+    """Meanwhile nothing is stored, and after the resume the word is there again."""
     check_transcript(UP, """
         > claim 3 10
         ok
@@ -190,7 +190,7 @@ def test_what_tasks_ask():
 
 
 def test_while_it_hibernates():
-    """No page frame is claimed, and no hibernation begins. The power is cut behind its first step."""
+    """No page frame is claimed, and no hibernation begins. The power is cut after its first step."""
     check_transcript(B, """
         > hibernate
         more 0 of 15

@@ -170,7 +170,7 @@ def test_a_swap_file_behind_the_disk():
 
 
 def test_faulty_machines():
-    """The line of a machine at fault is that of the first event, or the one behind the last line."""
+    """The line of a machine at fault is that of the first event, or the one after the last line."""
     check_scripts({
         "region 0 1 2\nboot": "2 Hardware",
         "region 0 1 2\n\n# x\nboot\njump": "4 Hardware",
@@ -190,7 +190,7 @@ def test_faulty_machines():
 
 
 def test_late_settings():
-    """Each setting is late behind an event, before its words are counted."""
+    """Each setting is late after an event, before its words are counted."""
     for script in [
         "boot\nzone 0 10",
         "boot\narea 9",

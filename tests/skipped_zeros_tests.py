@@ -115,7 +115,7 @@ def test_damage_stops_a_stream_before_it():
         check_refused((ran[0], b"", ran[2]), f"map 1 block {damaged.maps[0]} entry {entry}: block 0", 1)
         check_same("the stream", ran[1], streamed(plain)[: front * PAGE])
         check_same("the area", after, before)
-    # The last damage lies behind the data page of place 299, and a page of zeros is told by its number.
+    # The last damage lies after the data page of place 299, and a page of zeros is told by its number.
     check(paged(damaged, damaged.numbers[299])[0], 0, damaged.data[299])
     ran, _, _ = paged(damaged, damaged.numbers[400])
     check(ran, 0, bytes(PAGE))
@@ -128,7 +128,7 @@ def test_a_number_of_data_pages_that_is_wrong_refuses():
     for command in ["stream", "core", "loader"]:
         ran = ran_over(built, command)[0]
         check_same("the note of " + command, (ran[0], ran[2]), (1, line + "\n"))
-    # The page frame's number is met before the number page in which the number is told; its data page comes behind it.
+    # The page frame's number is met before the number page in which the number is told; its data page comes after it.
     check_refused(paged(built, built.numbers[0])[0], line, 1)
     check(paged(built, built.numbers[5])[0], 0, bytes(PAGE))
 

@@ -1,4 +1,4 @@
-"""Machines that fall asleep and wake: worked examples, what is refused meanwhile, cuts behind each step, and calls of the disk that fail.
+"""Machines that fall asleep and wake: worked examples, what is refused meanwhile, cuts after each step, and calls of the disk that fail.
 
 However it goes, the machine that slept and its image never both go on.
 """
@@ -348,7 +348,7 @@ def test_slots_just_enough():
 
 
 def test_suspends_that_are_cut():
-    """The power is cut behind each step of a suspend. From step 13 on the mark is written, and from 14 on, where the machine sleeps, it is
+    """The power is cut after each step of a suspend. From step 13 on the mark is written, and from 14 on, where the machine sleeps, it is
     synced."""
     play = Nights()
     for pick in PICKS + HEADER_SECTORS:
@@ -361,7 +361,7 @@ def test_suspends_that_are_cut():
 
 
 def test_wakes_that_are_cut():
-    """The power is cut before each step of a wake, and behind the last. From step 2 on the mark is taken back, and from 3 on, where the
+    """The power is cut before each step of a wake, and after the last. From step 2 on the mark is taken back, and from 3 on, where the
     machine goes on, that is synced."""
     play = Nights()
     for pick in PICKS + HEADER_SECTORS:

@@ -86,7 +86,7 @@ def test_counts_that_no_stream_has():
 
 
 def test_words_of_a_number_page():
-    """Each eighth word in turn is too large, or as the one before it; the word behind the last number is none; and then the pages are
+    """Each eighth word in turn is too large, or as the one before it; the word after the last number is none; and then the pages are
     missing."""
     whole = [*range(511), END]
     for i in range(7, 511, 8):

@@ -57,7 +57,7 @@ def test_tasks_that_swap():
 
 
 def test_slots_across_a_resume():
-    """A page that went out before a hibernation comes back behind the resume with the bytes that it had when it went."""
+    """A page that went out before a hibernation comes back after the resume with the bytes that it had when it went."""
     check_transcript(BOOT, """
         > out 3 10
         slot 1

@@ -58,7 +58,7 @@ class Bench:
             self.failed += 1
 
     def run(self, words, given, area=None, under=()):
-        """Status, output, note and the area's bytes behind a run of a program over this area, whose file stands behind its words."""
+        """Status, output, note and the area's bytes after a run of a program over this area, whose file stands after its words."""
         folder = self.room / str(next(self.folders))
         folder.mkdir()
         (folder / "input").write_bytes(given)
@@ -292,8 +292,8 @@ def order(bench, command, trace):
         bench.same(f"{name}: only then is an image's block read", 0, len([it for it in rest[:mark] if is_read(it) and it.at >= PAGE]))
     else:
         bench.same(f"{name}: pages and maps are written before", True, bool(pages) and max(pages) < mark)
-        behind = [("s" if is_sync(it) else "r" if is_read(it) else "w") + ("0" if it.at == 0 else "") for it in rest[max(pages) + 1 :]]
-        bench.same(f"{name}: behind them a sync, the header block read and written, a sync", "s r0 w0 s", " ".join(behind))
+        later = [("s" if is_sync(it) else "r" if is_read(it) else "w") + ("0" if it.at == 0 else "") for it in rest[max(pages) + 1 :]]
+        bench.same(f"{name}: after them a sync, the header block read and written, a sync", "s r0 w0 s", " ".join(later))
     # All that is new in the header block lies in its last sector.
     bench.same(f"{name}: the header block's first seven sectors stay", command.before[: 7 * SECTOR], rest[mark].data[: 7 * SECTOR])
 
@@ -324,7 +324,7 @@ def killed(bench, command, machine, loader, trace):
                 if note:
                     wrong.append(f"{call}: {note}")
     bench.same(f"{command.name}: killed at each of {len(trace.own)} calls, {left}", "", "; ".join(wrong[:5]))
-    bench.same(f"{command.name}: before and behind the header's write", {"none", "whole"}, set(left))
+    bench.same(f"{command.name}: before and after the header's write", {"none", "whole"}, set(left))
     # A call that isn't reached (the loader or a sanitizer maps memory as it likes) says nothing, but most are.
     bench.same(f"{command.name}: nearly all were reached", True, missed * 10 <= len(trace.own))
 
@@ -450,10 +450,10 @@ def power_cuts(bench, command, machine, loader, trace, dice):
 
 
 def outputs(bench, command, trace, given):
-    """Output that is a regular file is synced behind its last write; where that fails the status is 4."""
+    """Output that is a regular file is synced after its last write; where that fails the status is 4."""
     synced = [i for i, it in enumerate(trace.own if given is not None else trace.calls) if is_sync(it) and it.on == "output"]
     written = [i for i, it in enumerate(trace.own if given is not None else trace.calls) if is_write(it) and it.on == "output"]
-    bench.same(f"{command.name}: the output is synced once, behind its last write", (1, True),
+    bench.same(f"{command.name}: the output is synced once, after its last write", (1, True),
                (len(synced), bool(synced) and synced[0] > max(written)))
 
 

@@ -52,7 +52,7 @@ same "a dump" "16836" "$(($(wc -c <"$room/saved")))"
 same "a hibernation" "0|hibernated 5|" "$(told hibernate "$area" <"$room/saved")"
 same "its image" "0|area last 1599 bad 0 image 1 flags 2 hw -|" "$(told inspect "$area")"
 
-# The same machine's stream has the pages that lie behind the image's first map.
+# The same machine's stream has the pages that lie after the image's first map.
 "$program" export <"$room/saved" >"$room/stream"
 same "a stream" "28672" "$(($(wc -c <"$room/stream")))"
 same "its pages" "$(tail -c +8193 "$area" | head -c 28672 | cksum)" "$(cksum <"$room/stream")"
@@ -95,7 +95,7 @@ same "its image, without zeros" "0|area last 1599 bad 0 image 1 flags 258 hw -|"
 same "its resume" "0|20936|" "$(resumed "$area")"
 same "what it restored" "$(cksum <"$room/first")" "$(cksum <"$room/restored")"
 
-# A full disk behind the output: the image is gone.
+# A full disk under the output: the image is gone.
 same "a hibernation, before a full disk" "0|hibernated 5|" "$(told hibernate "$area" <"$room/saved")"
 status=0
 timeout 60 "$program" resume "$area" <"$room/loader" >/dev/full 2>"$room/note" || status=$?

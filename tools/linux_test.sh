@@ -94,7 +94,7 @@ resumed() {
     echo "$status|$(cat "$room/note")"
 }
 
-# What the kernel makes of an image, with settings of init.c behind it: `resumes` where the saved program goes on, with its pages and the
+# What the kernel makes of an image, with settings of init.c after it: `resumes` where the saved program goes on, with its pages and the
 # word of this boot, `refuses` where the kernel goes on as it was booted; else its last line.
 kernel() {
     if lab resume "$@" >"$1.out" 2>&1; then

@@ -54,7 +54,7 @@ ln -s "$area" "$room/link"
 same "a link to an area" "0|area last 3000 bad 0 image none|" "$(told inspect "$room/link")"
 same "words that aren't plain" "2||words" "$(told inspect -- "$area")"
 same "a header by its block" "0|area last 3000 bad 0 image none|" "$(told inspect --offset 0 "$area")"
-same "a block behind the file" "1||$zeros" "$(told inspect --offset 4294967295 "$area")"
+same "a block after the file" "1||$zeros" "$(told inspect --offset 4294967295 "$area")"
 
 # With a standard stream closed, and with all of them.
 status=0

@@ -96,7 +96,7 @@ class Bench:
         self.wrong = []
 
     def run(self, words, given, disk=None):
-        """Status, output and note of a run, and the disk's bytes behind it."""
+        """Status, output and note of a run, and the disk's bytes after it."""
         path = self.room / "disk"
         if disk is not None:
             path.write_bytes(disk)
@@ -106,14 +106,14 @@ class Bench:
             status, out, note = ended.returncode, ended.stdout, ended.stderr
         except subprocess.TimeoutExpired as late:
             status, out, note = None, late.stdout or b"", late.stderr or b""
-        behind = path.read_bytes() if disk is not None else None
+        after = path.read_bytes() if disk is not None else None
         self.seen[words[0], status] += 1
         fault = self.fault(words[0], status, out, note)
         if fault is None and disk is not None:
-            fault = disk_fault(words[0], status, note, disk, behind)
+            fault = disk_fault(words[0], status, note, disk, after)
         if fault:
             self.wrong.append(f"{' '.join(words)}: {fault}")
-        return status, out, note, behind
+        return status, out, note, after
 
     @staticmethod
     def fault(command, status, out, note):
@@ -287,9 +287,9 @@ def image_round(dice, bench, samples):
     if dice.random() < 0.15:
         bench.run(["import"], samples.stream, disk)
     words = dice.choice([["resume"], ["resume", "--any-kernel"]])
-    status, _, note, behind = bench.run(words, loader, disk)
-    again = bench.run(words, loader, behind)
-    kept = [b for b in range(len(behind) // PAGE) if behind[b * PAGE + 4086 : (b + 1) * PAGE] == MARK]
+    status, _, note, after = bench.run(words, loader, disk)
+    again = bench.run(words, loader, after)
+    kept = [b for b in range(len(after) // PAGE) if after[b * PAGE + 4086 : (b + 1) * PAGE] == MARK]
     if status in (0, 1) and not kept and again[2] != b"no image\n":
         bench.wrong.append(f"resume: {note!r}, and then {again[2]!r}")
 
@@ -311,7 +311,7 @@ def dump_round(dice, bench, samples):
 
 
 def with_slots(dice, saved):
-    """A dump in which some slots are tasks': the slot table's entries are behind the number of record 2."""
+    """A dump in which some slots are tasks': the slot table's entries are after the number of record 2."""
     changed = bytearray(saved)
     at = len(changed) - 2 * 4100 + 4
     for slot in dice.sample(range(1, SLOTS - 76), dice.randrange(1, 5)):
@@ -326,10 +326,10 @@ def script_round(dice, bench, samples):
 def stream_round(dice, bench, samples):
     fields = [(388, 440), (4096, 4144), (4096, 8192)]
     disk = samples.empty if dice.random() < 0.8 else of_disk(dice, samples.empty)
-    status, _, _, behind = bench.run(["import"], mutated(dice, samples.stream, fields), disk)
+    status, _, _, after = bench.run(["import"], mutated(dice, samples.stream, fields), disk)
     if status == 0:
-        bench.run(["inspect"], b"", behind)
-        bench.run(["resume"], samples.plain[1], behind)
+        bench.run(["inspect"], b"", after)
+        bench.run(["resume"], samples.plain[1], after)
 
 
 ROUNDS = [image_round, image_round, dump_round, script_round, stream_round]

@@ -2,7 +2,7 @@
  * The one program of the lab's initramfs, process 1 of the machine. The kernel's command line tells it what to do:
  *
  *   lab.mode=hibernate  fills pages, swaps to the disk, lets some pages out, and hibernates. When the machine is resumed it goes on
- *                       behind that, looks at the pages again, and prints the word that this boot was handed.
+ *                       after that, looks at the pages again, and prints the word that this boot was handed.
  *   lab.mode=resume     asks the kernel to resume the disk's image. Where the kernel refuses, it says so.
  *   lab.mode=cases      does that over and over, each time with other blocks of the disk damaged, as a third disk tells: of each case a
  *                       page with its name (64 bytes), the number of blocks and the blocks (8 bytes each), then the damaged pages, then
@@ -17,7 +17,7 @@
  *   lab.used=N          how many pages get a pattern and are let out to the swap area
  *   lab.sig=N           the machine's hardware signature, which only firmware with ACPI has. It is put where lab.sigat=ADDRESS says,
  *                       the physical address of the kernel's swsusp_hardware_signature
- *   lab.power=WORD      how the machine is switched off behind the image, for /sys/power/disk ("shutdown" without it)
+ *   lab.power=WORD      how the machine is switched off after the image, for /sys/power/disk ("shutdown" without it)
  *
  * Each line that it prints begins with "lab: ". It ends by switching the machine off.
  */
