@@ -1,6 +1,6 @@
 -- How a resume ends: it succeeds, or names a call of the device that failed, or too few page frames of the loader, or
 -- what the bytes of the disk show. In Linux: software_resume, kernel/power/hibernate.c, says the first three alike.
-use Rattle.std.specs.Prelude.{◌≡◌, ◌⊎◌, ℕ, Contains, ⊤}
+use Rattle.std.specs.Prelude.{◌≡◌, ◌⊎◌, ℕ, zero, suc, Contains}
 use Rattle.definitions.specs.Disk as disk
 use Rattle.plain_machine.specs.Machine.{Hardware}
 use Rattle.plain_machine.specs.State.{Load, Found, not_yet, found_own, found_other}
@@ -22,13 +22,17 @@ NamesTooFewFrames r = (free : ℕ) × (need : ℕ) × (r ≡ reply.TooFewLoaderF
 abbrev pub NamesBytes : Hardware → Load → disk.DiskImage → Reply → Type 0
 NamesBytes h load v r = (r ≡ reply.NoImage) ⊎ Contains (trace h load.dump v load.loader load.check) r
 
--- those of the disk that the second step found, where it was another machine's image, or else of the disk as it reads
-abbrev pub disk_found : disk.DiskImage → Found → disk.DiskImage
-disk_found v not_yet = v
-disk_found v (found_own i) = v
-disk_found v (found_other w) = w
+-- The disk whose bytes those are, of a resume that has made so many steps: up to the second one the disk v as it
+-- reads; after that one the disk that it read, where it found another machine's image there.
+abbrev pub disk_found : disk.DiskImage → Found → ℕ → disk.DiskImage
+disk_found v found zero = v
+disk_found v found (suc zero) = v
+disk_found v not_yet (suc (suc k)) = v
+disk_found v (found_own i) (suc (suc k)) = v
+disk_found v (found_other w) (suc (suc k)) = w
 
 -- it goes on, or ends so
-abbrev pub NamesItsEnd : Hardware → disk.DiskImage → Load → Reply → Type 0
-NamesItsEnd h v load r =
-    IsLoading r ⊎ HasResumed r ⊎ EndsInFault r ⊎ NamesTooFewFrames r ⊎ NamesBytes h load (disk_found v load.found) r
+abbrev pub NamesItsEnd : Hardware → disk.DiskImage → Load → ℕ → Reply → Type 0
+NamesItsEnd h v load k r =
+    IsLoading r ⊎ HasResumed r ⊎ EndsInFault r ⊎ NamesTooFewFrames r
+    ⊎ NamesBytes h load (disk_found v load.found k) r
