@@ -1,13 +1,14 @@
--- A page that went out comes back, over hibernations: until another page goes out to its slot, whatever may be brought in
--- from there is that page. In Linux: swap_writepage and swap_readpage, mm/page_io.c; an image leaves the slots of the
--- tasks as they are (alloc_swapdev_block, kernel/power/swap.c).
+-- A page that went out comes back, over hibernations: until another page goes out to its slot, whatever may be brought
+-- in from there is that page. In Linux: swap_writepage and swap_readpage, mm/page_io.c; an image leaves the slots of
+-- the tasks as they are (alloc_swapdev_block, kernel/power/swap.c).
 use Rattle.std.specs.Prelude.{◌≡◌, ◌≢◌, ◌<◌, ◌≤◌, ℕ, List, length, Some, IsSome, Contains, ⊤}
 use Rattle.definitions.specs.Disk as disk
 use Rattle.definitions.specs.Tables.{frame}
 use Rattle.plain_machine.specs.Image.{SlotPages}
 use Rattle.plain_machine.specs.Machine.{Hardware}
 use Rattle.plain_machine.specs.State.{State, off, on, booting, hibernating, undoing, settling, waking, loading, asleep}
-use Rattle.plain_machine.specs.State.{Running, Held, nothing, sure, maybe, own, other, Found, not_yet, found_own, found_other}
+use Rattle.plain_machine.specs.State.{Running, Held, nothing, sure, maybe, own, other, Found, not_yet, found_own}
+use Rattle.plain_machine.specs.State.{found_other}
 use Rattle.plain_machine.specs.declared.event.BootFrom.TheVariants.{Fresh, Kept}
 use Rattle.plain_machine.specs.declared.event.Event.{Event}
 use Rattle.plain_machine.specs.declared.event.Event.TheVariants as event
