@@ -18,7 +18,7 @@ use Rattle.definitions.proofs.ZoneNumbers.{IsStrictlyIncreasing-numbers, length-
 use Rattle.plain_machine.specs.Chain.{first_some, header_of, map_fault, or_else}
 use Rattle.plain_machine.specs.Loader.{left_free, need}
 use Rattle.plain_machine.specs.Machine.{Hardware, Memory, is_valid, valid_count}
-use Rattle.plain_machine.specs.Trace.{Place, map_at, page_at, are_bad_counts, cause_at, content_cause, counts_cause, d_in, end_cause, first_map, format_in, header_cause, identity_cause, info_cause, info_in, is_set, listed_cause, memory_cause, meta_in, next_cause, number_cause, number_in, number_word, numbers_cause, place, place_cause, place_count, read_cause, room_cause, stream_page, taken_back_cause, want_cause}
+use Rattle.plain_machine.specs.Trace.{Place, map_at, page_at, are_bad_counts, cause_at, counts_cause, d_in, end_cause, first_map, format_in, header_cause, identity_cause, info_cause, info_in, is_set, listed_cause, memory_cause, meta_in, next_cause, number_cause, number_in, number_word, numbers_cause, place, place_cause, place_count, read_cause, room_cause, stream_page, taken_back_cause, want_cause}
 use Rattle.plain_machine.specs.declared.event.IdentCheck.{IdentCheck}
 use Rattle.plain_machine.specs.declared.event.IdentCheck.TheVariants.{Compare, Skip}
 use Rattle.plain_machine.specs.declared.event.Loader.TheVariants as loader
@@ -239,6 +239,6 @@ module _ (h : Hardware) (m : Memory) (v : DiskImage) (l : Limits) (is : IsPrepar
 
   pub no_cause_at : (check : IdentCheck) (t : ℕ) → IsIdentified h v check → cause_at h m v loader.Table check t ≡ None
   no_cause_at check t ident =
-      both_none (content_cause h m v loader.Table check (place t)) (next_cause h v t)
-      (both_none (read_cause h v check (place t)) (want_cause h m v loader.Table (place t)) (no_read_cause check (place t) ident) (no_want_cause (place t)))
-      (no_next_cause t)
+      let want = want_cause h m v loader.Table (place t) in
+      both_none (read_cause h v check (place t)) (or_else want (next_cause h v t)) (no_read_cause check (place t) ident)
+      (both_none want (next_cause h v t) (no_want_cause (place t)) (no_next_cause t))

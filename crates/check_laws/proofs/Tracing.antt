@@ -3,7 +3,7 @@ use Rattle.std.proofs.Common.{◌≡◌, ℕ, ◌+◌, ◌<◌, zero, suc, List,
 use Rattle.std.specs.List.{range_with_len}
 use Rattle.definitions.specs.Disk.{DiskImage}
 use Rattle.plain_machine.specs.Machine.{Hardware, Memory}
-use Rattle.plain_machine.specs.Trace.{causes, info_in, last_reply, place_count, replies_to, trace}
+use Rattle.plain_machine.specs.Trace.{causes, info_in, last_reply, place_count, replies_to, step_cause, trace}
 use Rattle.plain_machine.specs.declared.event.IdentCheck.{IdentCheck}
 use Rattle.plain_machine.specs.declared.event.Loader.TheVariants as loader
 use Rattle.plain_machine.specs.declared.reply.Reply.{Reply}
@@ -29,14 +29,17 @@ all_loading last k (None ∷ next ∷ rest) (suc n) size none =
     ap (λ (rs : List Reply). reply.Loading k ∷ rs) (all_loading last (k + 1) (next ∷ rest) n (omega arith) (λ i lt. none (suc i) (omega arith)))
 
 module _ (h : Hardware) (m : Memory) (v : DiskImage) (l : Limits) (is : IsPrepared h m v l) (check : IdentCheck) (ident : IsIdentified h v check) where
+  no_step_cause : (k : ℕ) → step_cause h m v loader.Table check k ≡ None
+  no_step_cause zero = refl
+  no_step_cause (suc zero) = no_header_cause h m v l is
+  no_step_cause (suc (suc zero)) = refl
+  no_step_cause (suc (suc (suc zero))) = no_taken_back_cause h m v l is
+  no_step_cause (suc (suc (suc (suc t)))) = no_cause_at h m v l is check t ident
+
   no_causes : (i : ℕ) → i < length (causes h m v loader.Table check) → get_or (causes h m v loader.Table check) i None ≡ None
-  no_causes zero lt = refl
-  no_causes (suc zero) lt = no_header_cause h m v l is
-  no_causes (suc (suc zero)) lt = refl
-  no_causes (suc (suc (suc zero))) lt = no_taken_back_cause h m v l is
-  no_causes (suc (suc (suc (suc t)))) lt =
+  no_causes i lt =
       let size = causes_count h m v loader.Table check in
-      causes_at h m v loader.Table check t (omega arith) ∙ no_cause_at h m v l is check t ident
+      causes_at h m v loader.Table check i (omega arith) ∙ no_step_cause i
 
   pub resumed : IsResumed h m v check
   unfolding trace

@@ -1,3 +1,4 @@
 pub mod Beginning
 mod Counting
 pub mod Runs
+pub mod Closer

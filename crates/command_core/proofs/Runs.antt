@@ -1,5 +1,5 @@
 -- The runs of the commands, from their parts.
-use Rattle.std.proofs.Common.{◌≡◌, ◌⊎◌, inl, inr, ◌↔◌, ◌≤◌, ℕ, suc, Bool, true, false, List, [], ◌∷◌, ◌++◌, length, length-append, ◌+◌, Option, Some, None, Ok, Err, refl, sym, ap, ◌∙◌, subst, arith}
+use Rattle.std.proofs.Common.{◌≡◌, ◌⊎◌, inl, inr, ◌↔◌, ℕ, Bool, true, false, List, [], ◌∷◌, ◌++◌, length-append, ◌+◌, Option, Some, None, Ok, Err, refl, sym, ap, ◌∙◌, subst, arith}
 use Rattle.std.specs.Prelude.{IsTrue}
 use Rattle.std.proofs.lemmas.Bool.{false≢true}
 use Rattle.std.proofs.lemmas.List.{map-append}
@@ -21,12 +21,10 @@ use Rattle.world_core.specs.StandsFor.{IsNewWorld, hardware_of, shown}
 use Rattle.world_core.specs.World.{World}
 use Rattle.world_runs.specs.Played.{Played, situation_of}
 use Rattle.world_runs.specs.Turns.{Situation}
-use Rattle.world_runs.specs.Turns.{steps_of}
-use Rattle.world_runs.proofs.Counted.{steps_append}
 use Rattle.world_runs.proofs.Playing.{played_none, played_then}
 use Rattle.command_core.specs.Runs.{goes_on, held_at_first, is_booted}
 use Rattle.command_core.specs.Parts.{Boots, Finishes, GoesOn, Starts}
-use Rattle.command_core.specs.Runs.{GoOn, HasNewFault, IsHibernation, IsReady, IsResumption, Ran, boot_events, core_steps, last_reply, shrink_events}
+use Rattle.command_core.specs.Runs.{GoOn, HasNewFault, IsHibernation, IsReady, IsResumption, Ran, boot_events, core_steps, last_reply}
 use Rattle.command_core.specs.declared.ending.Ended.{Ended}
 use Rattle.command_core.proofs.Beginning.{new_stands}
 
@@ -58,18 +56,17 @@ fault_either r [] (inr none) = absurd none
 fault_either r (q ∷ rest) (inl here) = inl (inl here)
 fault_either r (q ∷ rest) (inr later) = elim (fault_either r rest later) [ inl first ↦ inl (inr first) | inr last ↦ inr last ]
 
-pub goes_first : {X : Type 0} (D : Ghosts X) (w : World) (begun : Reply) (x : X) → GoesOn D w w begun begun false 0 x x
-goes_first D w begun x = ([], record { last_is = refl; goes = tt; counted = refl; failed_is = (λ is. false≢true is, λ none. absurd none) }, played_none D w x)
+pub goes_first : {X : Type 0} (D : Ghosts X) (w : World) (begun : Reply) (x : X) → GoesOn D w w begun begun false x x
+goes_first D w begun x = ([], record { last_is = refl; goes = tt; failed_is = (λ is. false≢true is, λ none. absurd none) }, played_none D w x)
 
-pub goes_then : {X : Type 0} (D : Ghosts X) (old mid new : World) (begun last r : Reply) (failed now : Bool) (n : ℕ) (x y z : X) →
-    GoesOn D old mid begun last failed n x y → goes_on last ≡ true → (failed ≡ true → now ≡ true) → (TellsNewFault r → now ≡ true) → (now ≡ true → (failed ≡ true) ⊎ TellsNewFault r) →
-    Played D mid new (event.Step actor.Core ∷ []) (r ∷ []) y z → GoesOn D old new begun r now (n + 1) x z
-goes_then D old mid new begun last r failed now n x y z (rest, stepped, so_far) goes noted noticed no_other one = (
+pub goes_then : {X : Type 0} (D : Ghosts X) (old mid new : World) (begun last r : Reply) (failed now : Bool) (x y z : X) →
+    GoesOn D old mid begun last failed x y → goes_on last ≡ true → (failed ≡ true → now ≡ true) → (TellsNewFault r → now ≡ true) → (now ≡ true → (failed ≡ true) ⊎ TellsNewFault r) →
+    Played D mid new (event.Step actor.Core ∷ []) (r ∷ []) y z → GoesOn D old new begun r now x z
+goes_then D old mid new begun last r failed now x y z (rest, stepped, so_far) goes noted noticed no_other one = (
   rest ++ r ∷ [],
   record {
     last_is = last_more begun rest r;
     goes = goes_more begun rest r stepped.goes (ap goes_on stepped.last_is ∙ goes);
-    counted = length-append rest (r ∷ []) ∙ ap (λ (k : ℕ). k + 1) stepped.counted;
     failed_is = (
       λ is. elim (no_other is) [ inl before ↦ fault_first r rest (stepped.failed_is.0 before) | inr new' ↦ fault_last r rest new' ],
       λ has. elim (fault_either r rest has) [ inl before ↦ noted (stepped.failed_is.1 before) | inr new' ↦ noticed new' ],
@@ -79,20 +76,10 @@ goes_then D old mid new begun last r failed now n x y z (rest, stepped, so_far) 
       (played_then D old mid new (core_steps rest) (event.Step actor.Core ∷ []) rest (r ∷ []) x y z so_far one),
 )
 
-pub finishes : {X : Type 0} (D : Ghosts X) (old new : World) (begun : Reply) (ended : Ended) (n : ℕ) (x y : X) →
-    GoesOn D old new begun ended.reply ended.failed n x y → (goes_on ended.reply ≡ false) ⊎ (n ≡ 66000) → n ≤ 66000 → Finishes D old new begun ended x y
-finishes D old new begun ended n x y (rest, stepped, played) over few =
-    let count = stepped.counted in (
-      rest,
-      record {
-        last_is = stepped.last_is;
-        goes = stepped.goes;
-        over = elim over [ inl stops ↦ inl stops | inr most ↦ inr (stepped.counted ∙ most) ];
-        few = omega arith;
-        failed = stepped.failed_is;
-      },
-      played,
-    )
+pub finishes : {X : Type 0} (D : Ghosts X) (old new : World) (begun : Reply) (ended : Ended) (x y : X) →
+    GoesOn D old new begun ended.reply ended.failed x y → goes_on ended.reply ≡ false → Finishes D old new begun ended x y
+finishes D old new begun ended x y (rest, stepped, played) over =
+    (rest, record { last_is = stepped.last_is; goes = stepped.goes; over = over; failed = stepped.failed_is }, played)
 
 -- A boot, by how it ends.
 
@@ -220,36 +207,3 @@ resumed D check old begun new b ended x y z one (rest, stepped, finished) = (
   record { begun = b; rest = rest; stepped = stepped; events_are = refl; replies_are = refl },
   played_then D old begun new (event.Resume Table check ∷ []) (core_steps rest) (b ∷ []) rest x y z one finished,
 )
-
--- Its steps are few.
-
-steps_few : (rest : List Reply) → steps_of (core_steps rest) ≡ length rest
-steps_few [] = refl
-steps_few (r ∷ rest) = ap (λ (n : ℕ). suc n) (steps_few rest)
-
-pub resumption_few : (check : IdentCheck) (ended : Ended) (events : List Event) (replies : List Reply) → IsResumption check ended events replies → steps_of events ≤ 66000
-resumption_few check ended events replies is =
-    let few = is.stepped.few in
-    let count = ap steps_of is.events_are in
-    let steps = steps_few is.rest in
-    omega arith
-
-boot_few : steps_of boot_events ≡ 2
-boot_few = refl
-
-shrink_few : (size : Option ℕ) → steps_of (shrink_events size) ≡ 0
-shrink_few None = refl
-shrink_few (Some want) = refl
-
-pub hibernation_few : (f : Format) (size : Option ℕ) (ended : Ended) (events : List Event) (replies : List Reply) → IsHibernation f size ended events replies → steps_of events ≤ 66002
-hibernation_few f size ended events replies (inl (inl is)) = let count = ap steps_of is.events_are in omega arith
-hibernation_few f size ended events replies (inl (inr is)) = let count = ap steps_of is.events_are in omega arith
-hibernation_few f size ended events replies (inr is) =
-    let few = is.stepped.few in
-    let steps = steps_few is.rest in
-    let front = ap steps_of is.ready.events_are in
-    let boot = steps_append boot_events (shrink_events size) in
-    let shrink = shrink_few size in
-    let count = ap steps_of is.events_are in
-    let parts = steps_append is.front (event.Hibernate f ∷ core_steps is.rest) in
-    omega arith

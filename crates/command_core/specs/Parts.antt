@@ -1,5 +1,5 @@
 -- The parts of a command's run, over the world that plays it.
-use Rattle.std.specs.Prelude.{◌≡◌, ◌↔◌, ℕ, true, Bool, List, length, Option, None, Result, Ok, Err}
+use Rattle.std.specs.Prelude.{◌≡◌, ◌↔◌, ℕ, true, Bool, List, Option, None, Result, Ok, Err}
 use Rattle.plain_machine.specs.declared.event.Event.{Event}
 use Rattle.plain_machine.specs.declared.reply.Reply.{Reply}
 use Rattle.sector_disk.specs.declared.disk.Disk.{Ghosts}
@@ -25,17 +25,15 @@ Starts D size old new (Err ended) before after =
     (events : List Event) × (replies : List Reply) × FailsToBoot ended events replies
     × Played D old new events replies before after
 
--- so many steps of an operation that began with a reply: the last reply so far, and whether a call of the disk has
--- failed
-pub record AreSteppedSoFar (begun : Reply) (rest : List Reply) (last : Reply) (failed : Bool) (count : ℕ) : Type 0 where
+-- steps of an operation that began with a reply: the last reply so far, and whether a call of the disk has failed
+pub record AreSteppedSoFar (begun : Reply) (rest : List Reply) (last : Reply) (failed : Bool) : Type 0 where
   pub last_is : last_reply begun rest ≡ last
   pub goes : GoOn begun rest
-  pub counted : length rest ≡ count
   pub failed_is : (failed ≡ true) ↔ HasNewFault rest
 
-abbrev pub GoesOn : {X : Type 0} → Ghosts X → World → World → Reply → Reply → Bool → ℕ → X → X → Type 0
-GoesOn D old new begun last failed count before after =
-    (rest : List Reply) × AreSteppedSoFar begun rest last failed count
+abbrev pub GoesOn : {X : Type 0} → Ghosts X → World → World → Reply → Reply → Bool → X → X → Type 0
+GoesOn D old new begun last failed before after =
+    (rest : List Reply) × AreSteppedSoFar begun rest last failed
     × Played D old new (core_steps rest) rest before after
 
 abbrev pub Finishes : {X : Type 0} → Ghosts X → World → World → Reply → Ended → X → X → Type 0

@@ -58,12 +58,11 @@ HasNewFault [] = ⊥
 HasNewFault (r ∷ rest) = TellsNewFault r ⊎ HasNewFault rest
 
 -- An operation that begins with the first reply, and step after step up to one after which none is left; whether a call
--- of the disk has failed is what the replies tell. One over 65,536 page frames has 65,798 steps, and two of an undo.
+-- of the disk has failed is what the replies tell.
 pub record AreStepped (begun : Reply) (rest : List Reply) (ended : Ended) : Type 0 where
   pub last_is : last_reply begun rest ≡ ended.reply
   pub goes : GoOn begun rest
-  pub over : (goes_on ended.reply ≡ false) ⊎ (length rest ≡ 66000)
-  pub few : length rest ≤ 66000
+  pub over : goes_on ended.reply ≡ false
   pub failed : (ended.failed ≡ true) ↔ HasNewFault rest
 
 -- A resume is asked for with the dump's memory as the loader, and steps follow.

@@ -1,16 +1,14 @@
-ghost use Rattle.std.specs.Prelude.{◌≡◌, ◌⊎◌, ◌≤◌, ◌↔◌, IsTrue};
+ghost use Rattle.std.specs.Prelude.{◌≡◌, ◌⊎◌, ◌≤◌, ◌↔◌, ◌+◌, IsTrue, if◌then◌else◌};
 ghost use Rattle.definitions.specs.Disk.{HasRisen};
 ghost use Rattle.protocol_laws.specs.Rows.{TellsNewFault};
 ghost use Rattle.world_core.specs.StandsFor.{IsOff, blocks_of, hardware_of};
+ghost use Rattle.world_core.specs.StepsLeft.{steps_left};
 ghost use Rattle.command_core.specs.Runs.{goes_on};
 ghost use Rattle.command_core.specs.Parts.{Finishes};
 
 use plain_machine::{Actor, Event, Left, Reply};
 use sector_disk::Disk;
 use world_core::World;
-
-/// More steps than a hibernation or a resume of 65,536 page frames has: 65,798, and two of an undo.
-pub(crate) const MOST_STEPS: u32 = 66_000;
 
 /// How an operation has ended.
 #[derive(Clone, Copy)]
@@ -34,7 +32,8 @@ impl Ended {
     }
 }
 
-/// Makes the steps of the operation that this reply began, up to a reply after which none is left.
+/// Makes the steps of the operation that this reply began, up to a reply after which none is left. Each leaves fewer
+/// steps, so there is such a reply over any disk.
 pub(crate) fn finish<D: Disk>(world: &mut World, disk: &mut D, begun: Reply) -> Ended
     requires blocks { IsOff world.old ⊎ (D.block_count disk.old ≡ blocks_of world.old) }
     ensures ran { Finishes D.Disk world.old world.new begun result disk.old disk.new }
@@ -42,14 +41,13 @@ pub(crate) fn finish<D: Disk>(world: &mut World, disk: &mut D, begun: Reply) -> 
     ensures cause { IsTrue result.failed → HasRisen (D.faults disk.old) (D.faults disk.new) }
     ensures faults { D.faults disk.old ≤ D.faults disk.new }
     ensures orders { D.orders disk.new ≡ D.orders disk.old }
+    ensures calls { D.calls disk.new ≤ D.calls disk.old + (if goes_on begun then steps_left world.old else 0) }
 {
     let mut reply = begun;
     let mut failed = false;
-    let mut made = 0;
-    while made < MOST_STEPS && goes_on(&reply) {
+    while goes_on(&reply) {
         reply = world.event(disk, Event::Step(Actor::Core));
         failed = failed || is_new_fault(&reply);
-        made += 1;
     }
     Ended { reply, failed }
 }

@@ -1,4 +1,4 @@
-ghost use Rattle.std.specs.Prelude.{◌≡◌, ◌≤◌, IsTrue, Some};
+ghost use Rattle.std.specs.Prelude.{◌≡◌, ◌≤◌, ◌+◌, IsTrue, Some};
 ghost use Rattle.definitions.specs.Disk.{HasRisen};
 ghost use Rattle.world_core.specs.StandsFor.{IsNewWorld, hardware_of, shown};
 ghost use Rattle.command_core.specs.Runs.{IsResumption, RanAs};
@@ -19,6 +19,7 @@ pub fn resume<D: Disk>(world: &mut World, disk: &mut D, check: IdentCheck) -> En
     ensures cause { IsTrue result.failed → HasRisen (D.faults disk.old) (D.faults disk.new) }
     ensures faults { D.faults disk.old ≤ D.faults disk.new }
     ensures orders { D.orders disk.new ≡ D.orders disk.old }
+    ensures calls { D.calls disk.new ≤ D.calls disk.old + 65800 }
 {
     let begun = world.event(disk, Event::Resume(Loader::Table, check));
     finish(world, disk, begun)

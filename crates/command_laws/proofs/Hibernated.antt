@@ -6,7 +6,6 @@ use Rattle.std.proofs.lemmas.Option.{same_Some}
 use Rattle.definitions.specs.Disk as disk
 use Rattle.plain_machine.specs.Stands.{EachImage}
 use Rattle.plain_machine.specs.UsableArea.{HasOriginal}
-use Rattle.definitions.specs.ZoneFacts.{AreZones}
 use Rattle.plain_machine.specs.Machine.{Hardware, Memory}
 use Rattle.plain_machine.specs.Shows.{WorldView}
 use Rattle.plain_machine.specs.State.{State, off, on}
@@ -157,9 +156,9 @@ module _ (h : Hardware) (m : Memory) (v : disk.DiskImage) (size : Option ℕ) (f
       untouched_then h (event.Hibernate f) v (point last true p) (point begun true q) up.untouched (turn_at h (event.Hibernate f) last begun true p q turns.0)
       (λ b in'. save_writes h m size v b (subst (λ (s : State). Contains (blocks_written h s) b) up.state in'))
 
-  hibernates : (last begun : Reply) (rest : List Reply) (ended : Ended) (told : Option disk.Content) (p : Situation) (through : List Situation) → AreZones h.zones → IsUp (machine_to_save h m size v) v (point last true p) → AreStepped begun rest ended → AreTurns h p (event.Hibernate f ∷ core_steps rest) (begun ∷ rest) through → told ≡ Some (end_of p through).content → HasHibernated h (machine_to_save h m size v) f v ended told
-  hibernates last begun rest ended told p [] zones up stepped turns says = absurd turns
-  hibernates last begun rest ended told p (q ∷ through) zones up stepped (turn, turns) says =
+  hibernates : (last begun : Reply) (rest : List Reply) (ended : Ended) (told : Option disk.Content) (p : Situation) (through : List Situation) → IsUp (machine_to_save h m size v) v (point last true p) → AreStepped begun rest ended → AreTurns h p (event.Hibernate f ∷ core_steps rest) (begun ∷ rest) through → told ≡ Some (end_of p through).content → HasHibernated h (machine_to_save h m size v) f v ended told
+  hibernates last begun rest ended told p [] up stepped turns says = absurd turns
+  hibernates last begun rest ended told p (q ∷ through) up stepped (turn, turns) says =
       let a = machine_to_save h m size v in
       let start = point begun false q in
       let untouched = untouched_at v (point begun true q) start refl (begun_untouched last begun p q up (turn, tt)) in
@@ -168,7 +167,7 @@ module _ (h : Hardware) (m : Memory) (v : disk.DiskImage) (size : Option ℕ) (f
       let now = (end_of q through).content in
       elim (hibernation_begins h (disk.as_it_reads p.content) a f begun q.state (step_from h (event.Hibernate f) (on a) (point last true p) (point begun true q) up.state (turn_at h (event.Hibernate f) last begun true p q turn))) [
         | inl no' ↦ refused h a f v shown no'.0 start ended told now says refl untouched no'.1 no'.2 gone
-        | inr is ↦ saves h a f v shown start ended told now zones says refl untouched is.0 (subst (λ (r : Reply). IsAt (image_to_save h a f) a 0 r q.state false) (sym is.1) is.2) gone
+        | inr is ↦ saves h a f v shown start ended told now says refl untouched is.0 (subst (λ (r : Reply). IsAt (image_to_save h a f) a 0 r q.state false) (sym is.1) is.2) gone
       ]
 
   inside_hibernation : (blocks : ℕ) (last begun : Reply) (rest : List Reply) (ended : Ended) (w : disk.DiskImage) (p : Situation) (through : List Situation) → disk.IsContent blocks (disk.settled v) → IsUp (machine_to_save h m size v) v (point last true p) → AreStepped begun rest ended → AreTurns h p (event.Hibernate f ∷ core_steps rest) (begun ∷ rest) through → IsLeftInside p through w → (w ≡ v) ⊎ IsUnmarkedOrHolds h (image_to_save h (machine_to_save h m size v) f) w
@@ -200,16 +199,16 @@ module _ {X : Type 0} (D : Ghosts X) (h : Hardware) (m : Memory) (v : disk.DiskI
       ready h m v over.whole.0 size then (is.begun ∷ is.rest) over.first up.begun up.synced up.booted up.shrunk over.through begins up.goes up.boots up.sizes
       (subst (λ (rs : List Reply). AreTurns h over.first ((boot_events ++ shrink_events size) ++ then) rs over.through) all_replies (subst (λ (es : List Event). AreTurns h over.first es replies over.through) all_events over.turns))
 
-  pub has_hibernated : AreZones h.zones → IsHibernation f size ended events replies → HasHibernated h (machine_to_save h m size v) f v ended (D.content after)
-  has_hibernated zones (inl (inl is)) =
+  pub has_hibernated : IsHibernation f size ended events replies → HasHibernated h (machine_to_save h m size v) f v ended (D.content after)
+  has_hibernated (inl (inl is)) =
       unsynced h m v over.whole.0 (machine_to_save h m size v) f ended (D.content after) over.first is.begun over.through begins is.stops is.failed
       (subst (λ (rs : List Reply). AreTurns h over.first (event.Boot Kept ∷ event.Step actor.Core ∷ []) rs over.through) is.replies_are (subst (λ (es : List Event). AreTurns h over.first es replies over.through) is.events_are over.turns)) over.told
-  has_hibernated zones (inl (inr is)) =
+  has_hibernated (inl (inr is)) =
       unbooted h m v over.whole.0 (machine_to_save h m size v) f ended (D.content after) over.first is.begun is.synced over.through begins is.goes is.stops is.failed
       (subst (λ (rs : List Reply). AreTurns h over.first boot_events rs over.through) is.replies_are (subst (λ (es : List Event). AreTurns h over.first es replies over.through) is.events_are over.turns)) over.told
-  has_hibernated zones (inr is) =
+  has_hibernated (inr is) =
       let up = comes_up is in
-      hibernates h m v size f up.last is.begun is.rest ended (D.content after) up.at up.later zones up.up is.stepped up.turns (over.told ∙ ap (λ (p : Situation). Some p.content) up.end)
+      hibernates h m v size f up.last is.begun is.rest ended (D.content after) up.at up.later up.up is.stepped up.turns (over.told ∙ ap (λ (p : Situation). Some p.content) up.end)
 
   early_unsynced : (w : disk.DiskImage) (p : Situation) (begun : Reply) (through : List Situation) → Begins h m v over.whole.0 p → goes_on ended.reply ≡ false → AreTurns h p (event.Boot Kept ∷ event.Step actor.Core ∷ []) (begun ∷ ended.reply ∷ []) through → IsLeftInside p through w → w ≡ v
   early_unsynced w p begun [] is stops turns left = absurd turns

@@ -1,5 +1,5 @@
 -- A hibernation step by step: what it is at after so many, and that it ends.
-use Rattle.std.proofs.Common.{◌≡◌, ◌⊎◌, inl, inr, ◌≤◌, ◌<◌, ℕ, ◌+◌, zero, suc, Bool, true, false, List, [], Option, Some, None, refl, sym, subst, arith, Contains}
+use Rattle.std.proofs.Common.{◌≡◌, inl, inr, ◌≤◌, ◌<◌, ℕ, ◌+◌, zero, suc, Bool, true, false, List, [], Option, Some, None, refl, sym, subst, arith, Contains}
 use Rattle.std.specs.List.{AllByRecursion}
 use Rattle.std.proofs.lemmas.Bool.{cases_lt, false≢true}
 use Rattle.std.proofs.lemmas.List.Elements.{All-from_recursion, All-contains}
@@ -92,32 +92,8 @@ step_more h v i a n (reply.Undo call k) r' b b' failed now at goes step new old 
 step_more h v i a n (reply.Loading k) r' b b' failed now at goes step new old = absurd at
 step_more h v i a n _ r' b b' failed now at goes step new old = absurd (false≢true goes)
 
-undo_few : (i : Image) (n k : ℕ) → k ≤ 1 → n ≤ hibernate_steps i + k → n ≤ hibernate_steps i + 1
-undo_few i n k few made = omega arith
-
--- how many steps it has made, where it goes on
-pub few_made : (i : Image) (a : Running) (n : ℕ) (r : Reply) (b : State) (failed : Bool) → IsAt i a n r b failed → goes_on r ≡ true → (n ≤ hibernate_steps i + 1) ⊎ (b ≡ hibernating false i a n)
-few_made i a n (reply.More k of) b failed at goes = inr at
-few_made i a n (reply.Undo call k) b failed at goes = inl (undo_few i n k at.1 at.2)
-few_made i a n (reply.Loading k) b failed at goes = absurd at
-few_made i a n _ b failed at goes = absurd (false≢true goes)
-
 pub after_steps : (h : Hardware) (i : Image) (a : Running) (n : ℕ) (start end : Point) → IsAt i a 0 start.reply start.state start.failed → AreSteps h n start end → IsAt i a n end.reply end.state end.failed
 after_steps h i a zero start end at are = subst (λ (p : Point). IsAt i a 0 p.reply p.state p.failed) (sym are) at
 after_steps h i a (suc n) start end at (mid, are, goes, turn) =
     subst (λ (m : ℕ). IsAt i a m end.reply end.state end.failed) (let e : n + 1 ≡ suc n = omega arith in e)
     (step_more h (disk.as_it_reads mid.content) i a n mid.reply end.reply mid.state end.state mid.failed end.failed (after_steps h i a n start mid at are) goes turn.step turn.noticed turn.noted)
-
--- so it is over soon
-pub few_steps : (h : Hardware) (i : Image) (a : Running) (n : ℕ) (start end : Point) → IsAt i a 0 start.reply start.state start.failed → AreSteps h n start end → n ≤ hibernate_steps i + 2
-few_steps h i a zero start end at are = omega arith
-few_steps h i a (suc n) start end at (mid, are, goes, turn) =
-    elim (few_made i a n mid.reply mid.state mid.failed (after_steps h i a n start mid at are) goes) [
-      | inl few ↦ omega arith
-      | inr is ↦ (
-          let v = disk.as_it_reads mid.content in
-          let step = hibernating_step h v i a n end.reply end.state (subst (λ (s : State). Step h v s (event.Step actor.Core) end.reply end.state) is turn.step) in
-          let lt = before_end i a n (end.reply, end.state) step in
-          omega arith
-          )
-    ]

@@ -1,11 +1,10 @@
 -- The steps of a resume, from its event to what it answers at the end.
-use Rattle.std.proofs.Common.{◌≡◌, ◌≢◌, ◌⊎◌, inl, inr, ◌≤◌, ℕ, zero, suc, nat_eq, Bool, true, false, cond, not, length, [], Option, Some, None, slice_get, unwrap_or, refl, sym, ap, ◌∙◌, subst, arith, Contains}
+use Rattle.std.proofs.Common.{◌≡◌, ◌≢◌, ◌⊎◌, inl, inr, ◌≤◌, ℕ, zero, suc, nat_eq, Bool, true, false, cond, not, [], Option, Some, None, slice_get, unwrap_or, refl, sym, ap, ◌∙◌, subst, arith, Contains}
 use Rattle.std.specs.Cmp.Lexicographic.{pointwise}
 use Rattle.std.proofs.lemmas.Bool.{false≢true}
-use Rattle.std.proofs.lemmas.Option.{slice_get_within, same_Some}
+use Rattle.std.proofs.lemmas.Option.{same_Some}
 use Rattle.definitions.specs.Disk as disk
 use Rattle.definitions.specs.SwapHeader.{flags_of, sig_of, image_signature}
-use Rattle.definitions.specs.ZoneFacts.{AreZones}
 use Rattle.plain_machine.specs.Chain.{Marked, header_of}
 use Rattle.plain_machine.specs.Machine.{Hardware, Memory, block_of_slot}
 use Rattle.plain_machine.specs.Shows.{WorldView}
@@ -34,7 +33,7 @@ use Rattle.world_runs.proofs.Leaving.{leaves_then}
 use Rattle.plain_machine.specs.declared.reply.Left.TheVariants.{Same, Gone, Unsure}
 use Rattle.command_laws.proofs.Resuming.{IsAt, HasGoneOn, LeavesOff, FaultLeaves, begun, found, state_at, trace_of, step_more, first_entry, second_entry}
 use Rattle.command_laws.proofs.Saved.{exactly, faults_stop}
-use Rattle.command_laws.proofs.Traces.{counted_at, trace_counts, trace_short, header_over}
+use Rattle.command_laws.proofs.Traces.{counted_at, trace_counts, header_over}
 
 -- The event.
 
@@ -94,18 +93,6 @@ after_steps h m check v blocks zero start end whole is at are = subst (IsAfter h
 after_steps h m check v blocks (suc n) start end whole is at (mid, are, goes, turn) = after_more h m check v blocks n mid end whole (after_steps h m check v blocks n start mid whole is at are) goes turn
 
 -- There are few of them.
-
-gone_within : (h : Hardware) (m : Memory) (check : IdentCheck) (v : disk.DiskImage) (n : ℕ) → HasGoneOn h m check v n → n ≤ length (trace_of h m check v)
-gone_within h m check v zero gone = omega arith
-gone_within h m check v (suc n) gone = let lt = slice_get_within (trace_of h m check v) n (reply.Loading (suc n)) gone in omega arith
-
-pub few_steps : (h : Hardware) (m : Memory) (check : IdentCheck) (v : disk.DiskImage) (blocks n : ℕ) (start end : Point) → AreZones h.zones → disk.IsContent blocks (disk.settled v) → IsUntouched v start → IsAt h m check v 0 start.reply start.state start.failed → AreSteps h n start end → n ≤ 65799
-few_steps h m check v blocks zero start end zones whole is at are = omega arith
-few_steps h m check v blocks (suc n) start end zones whole is at (mid, are, goes, turn) =
-    let there = after_steps h m check v blocks n start mid whole is at are in
-    let within = gone_within h m check v n (goes_state h m check v n mid.reply mid.state mid.failed there.at goes).1 in
-    let short = trace_short h m v check zones in
-    omega arith
 
 -- where the header block is refused there are two at most
 second_is : (h : Hardware) (m : Memory) (check : IdentCheck) (v : disk.DiskImage) (r : Reply) → header_cause h v ≡ Some r → slice_get (trace_of h m check v) 1 ≡ Some r
@@ -220,10 +207,6 @@ answer_of : (h : Hardware) (m : Memory) (check : IdentCheck) (v : disk.DiskImage
 answer_of h m check v r b failed (inl fault) = inr (fault.0, fault.1)
 answer_of h m check v r b failed (inr is) = inl is.0
 
-over_at_last : (steps : ℕ) (r : Reply) → (goes_on r ≡ false) ⊎ (steps ≡ 66000) → steps ≤ 65799 → goes_on r ≡ false
-over_at_last steps r (inl over) few = over
-over_at_last steps r (inr most) few = absurd (omega arith)
-
 -- A call that failed shows in the reply, since no step comes after it.
 new_fault : (h : Hardware) (m : Memory) (check : IdentCheck) (v : disk.DiskImage) (n : ℕ) (r : Reply) (b : State) (failed : Bool) → IsAt h m check v n r b failed → TellsNewFault r → EndsInFault r
 new_fault h m check v n (reply.ReadFault left) b failed at is = tt
@@ -239,14 +222,12 @@ shows_fault h m check v blocks (suc n) start end whole none is at (mid, are, goe
   | inl earlier ↦ absurd (false≢true (sym (faults_stop mid.reply (shows_fault h m check v blocks n start mid whole none is at are earlier)) ∙ goes))
 ]
 
-pub resumes : (h : Hardware) (m : Memory) (check : IdentCheck) (v : disk.DiskImage) (blocks : ℕ) (shown : WorldView) (start : Point) (ended : Ended) (told : Option disk.Content) (now : disk.Content) → AreZones h.zones → told ≡ Some now → disk.IsContent blocks (disk.settled v) → start.failed ≡ false → IsUntouched v start →
+pub resumes : (h : Hardware) (m : Memory) (check : IdentCheck) (v : disk.DiskImage) (blocks : ℕ) (shown : WorldView) (start : Point) (ended : Ended) (told : Option disk.Content) (now : disk.Content) → told ≡ Some now → disk.IsContent blocks (disk.settled v) → start.failed ≡ false → IsUntouched v start →
     IsAt h m check v 0 start.reply start.state start.failed → HasGone h start ended shown now → HasResumed h m check v shown.frames ended told
-resumes h m check v blocks shown start ended told now zones says whole unfailed is at gone =
+resumes h m check v blocks shown start ended told now says whole unfailed is at gone =
     let end = gone.end in
     let after = after_steps h m check v blocks gone.steps start end whole is at gone.are in
-    let few = few_steps h m check v blocks gone.steps start end zones whole is at gone.are in
-    let over = over_at_last gone.steps ended.reply gone.over few in
-    let ends : EndsAs h m check v end.reply end.state end.failed = ends_at h m check v gone.steps end.reply end.state end.failed after.at (ap goes_on gone.reply_is ∙ over) in
+    let ends : EndsAs h m check v end.reply end.state end.failed = ends_at h m check v gone.steps end.reply end.state end.failed after.at (ap goes_on gone.reply_is ∙ gone.over) in
     let here : EndsAs h m check v ended.reply end.state ended.failed =
     subst (λ (f : Bool). EndsAs h m check v ended.reply end.state f) gone.failed_is (subst (λ (r : Reply). EndsAs h m check v r end.state end.failed) gone.reply_is ends) in
     record {
@@ -254,7 +235,7 @@ resumes h m check v blocks shown start ended told now zones says whole unfailed 
       told = says ∙ ap Some (sym gone.content_is);
       answer = exactly (IsLast (trace_of h m check v) ended.reply) ended.reply ended.failed (answer_of h m check v ended.reply end.state ended.failed here)
           (λ failed. subst EndsInFault gone.reply_is (shows_fault h m check v blocks gone.steps start end whole unfailed is at gone.are (gone.failed_is ∙ failed)));
-      over = over;
+      over = gone.over;
       restored = λ n resumed. sym gone.frames ∙ restored_last h m check v blocks gone.steps n start end whole is at gone.are (gone.reply_is ∙ resumed);
       gone = gone_at h m check v shown end.content ended.reply end.state ended.failed gone.stands here;
       unwritten = after.unwritten;

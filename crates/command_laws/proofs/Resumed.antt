@@ -2,7 +2,6 @@
 use Rattle.std.proofs.Common.{◌≡◌, inl, inr, ℕ, true, false, List, [], ◌∷◌, Option, Some, refl, sym, ◌∙◌, subst, Contains}
 use Rattle.std.proofs.lemmas.Option.{same_Some}
 use Rattle.definitions.specs.Disk as disk
-use Rattle.definitions.specs.ZoneFacts.{AreZones}
 use Rattle.plain_machine.specs.Machine.{Hardware, Memory}
 use Rattle.plain_machine.specs.Shows.{WorldView}
 use Rattle.plain_machine.specs.Stands.{EachImage, IsSameOrTakenBack}
@@ -35,13 +34,13 @@ module _ (h : Hardware) (m : Memory) (check : IdentCheck) (v : disk.DiskImage) (
       untouched_then h (event.Resume Table check) v (point reply.Idle true p) (point begun true q) first_untouched (turn_at h (event.Resume Table check) reply.Idle begun true p q turn)
       (λ b in'. off_writes h (held_at_first h v) (Some m) b (subst (λ (s : State). Contains (blocks_written h s) b) state in'))
 
-  loads : (begun : Reply) (rest : List Reply) (ended : Ended) (told : Option disk.Content) (through : List Situation) → AreZones h.zones → AreStepped begun rest ended → AreTurns h p (event.Resume Table check ∷ core_steps rest) (begun ∷ rest) through → told ≡ Some (end_of p through).content → HasResumed h m check v (end_of p through).shown.frames ended told
-  loads begun rest ended told [] zones stepped turns says = absurd turns
-  loads begun rest ended told (q ∷ through) zones stepped (turn, turns) says =
+  loads : (begun : Reply) (rest : List Reply) (ended : Ended) (told : Option disk.Content) (through : List Situation) → AreStepped begun rest ended → AreTurns h p (event.Resume Table check ∷ core_steps rest) (begun ∷ rest) through → told ≡ Some (end_of p through).content → HasResumed h m check v (end_of p through).shown.frames ended told
+  loads begun rest ended told [] stepped turns says = absurd turns
+  loads begun rest ended told (q ∷ through) stepped (turn, turns) says =
       let start = point begun false q in
       let untouched = untouched_at v (point begun true q) start refl (begun_untouched begun q turn) in
       let is = resume_begins h m check v (disk.as_it_reads p.content) begun q.state (step_from h (event.Resume Table check) (off (held_at_first h v) (Some m)) (point reply.Idle true p) (point begun true q) state (turn_at h (event.Resume Table check) reply.Idle begun true p q turn)) in
-      resumes h m check v blocks (end_of q through).shown start ended told (end_of q through).content zones says whole refl untouched (begins_at h m check v begun q.state false is.0 is.1) (has_gone h q begun rest ended through turn.stands turns stepped)
+      resumes h m check v blocks (end_of q through).shown start ended told (end_of q through).content says whole refl untouched (begins_at h m check v begun q.state false is.0 is.1) (has_gone h q begun rest ended through turn.stands turns stepped)
 
   -- the disk is the one that was found, but for block(0), which is as it was or taken back
   takes : (begun : Reply) (rest : List Reply) (ended : Ended) (through : List Situation) → AreStepped begun rest ended → AreTurns h p (event.Resume Table check ∷ core_steps rest) (begun ∷ rest) through → EachImage (end_of p through).content (IsSameOrTakenBack h v)
@@ -72,10 +71,10 @@ module _ {X : Type 0} (D : Ghosts X) (h : Hardware) (m : Memory) (v : disk.DiskI
   turns_of : AreTurns h over.first (event.Resume Table check ∷ core_steps is.rest) (is.begun ∷ is.rest) over.through
   turns_of = subst (λ (rs : List Reply). AreTurns h over.first (event.Resume Table check ∷ core_steps is.rest) rs over.through) is.replies_are (subst (λ (es : List Event). AreTurns h over.first es replies over.through) is.events_are over.turns)
 
-  pub has_resumed : AreZones h.zones → HasResumed h m check v shown.frames ended (D.content after)
-  has_resumed zones =
+  pub has_resumed : HasResumed h m check v shown.frames ended (D.content after)
+  has_resumed =
       subst (λ (w : WorldView). HasResumed h m check v w.frames ended (D.content after)) over.shown_is
-      (loads h m check v over.whole.0 over.first over.state over.content whole_first is.begun is.rest ended (D.content after) over.through zones is.stepped turns_of over.told)
+      (loads h m check v over.whole.0 over.first over.state over.content whole_first is.begun is.rest ended (D.content after) over.through is.stepped turns_of over.told)
 
   -- a crash inside leaves the disk as it was, but for block(0), which is as it was or taken back
   pub resumption_inside : (w : disk.DiskImage) → IsLeftInside over.first over.through w → IsSameOrTakenBack h v w

@@ -23,7 +23,7 @@ use Rattle.command_core.specs.Runs.{goes_on, held_at_first}
 use Rattle.command_laws.specs.Hibernations.{EndsInFault}
 use Rattle.command_laws.proofs.Traces.{counted_at, trace_counts}
 use Rattle.protocol_laws.specs.TraceAt.{reply_at}
-use Rattle.protocol_laws.proofs.TraceAt.{traces_at}
+use Rattle.protocol_laws.proofs.TraceAt.{past_more, first_reply, traces_at}
 use Rattle.definitions.specs.SwapHeader.{flags_of}
 use Rattle.plain_machine.specs.Chain.{header_of}
 use Rattle.plain_machine.specs.Trace.{header_cause, is_set}
@@ -143,17 +143,17 @@ unfolding outcomes refusal
 loading_step h w load k r b step = step
 
 pub first_entry : (h : Hardware) (m : Memory) (check : IdentCheck) (v : disk.DiskImage) → slice_get (trace_of h m check v) 0 ≡ Some (reply.Loading 1)
-first_entry h m check v = traces_at h m v Table check 0 (omega arith) (λ j lt. absurd (omega arith))
+first_entry h m check v = traces_at h m v Table check 0 (omega arith) (λ j lt. absurd (omega arith)) ∙ ap Some (first_reply h m v Table check)
 
 first_leads : (h : Hardware) (m : Memory) (check : IdentCheck) (v w : disk.DiskImage) → AllByRecursion (LeadsOn h m check v 0) (load_step h w (begun h m check v) 0)
 first_leads h m check v w = (fault_leads h m check v 0 (begun h m check v) (load_call 0), ((λ now new. (refl, first_entry h m check v)), tt))
 
 at_first : (h : Hardware) (m : Memory) (check : IdentCheck) (v : disk.DiskImage) (j : ℕ) → j < 1 → reply_at h m v Table check j ≡ reply.Loading (j + 1)
-at_first h m check v zero lt = refl
+at_first h m check v zero lt = first_reply h m v Table check
 at_first h m check v (suc j) lt = absurd (omega arith)
 
 pub second_entry : (h : Hardware) (m : Memory) (check : IdentCheck) (v : disk.DiskImage) → slice_get (trace_of h m check v) 1 ≡ Some (unwrap_or (header_cause h v) (reply.Loading 2))
-second_entry h m check v = traces_at h m v Table check 1 (omega arith) (at_first h m check v)
+second_entry h m check v = traces_at h m v Table check 1 (omega arith) (at_first h m check v) ∙ ap Some (ap (unwrap_or (header_cause h v)) (past_more h m v Table 1 (omega arith)))
 
 unmarked_cause : (h : Hardware) (v : disk.DiskImage) → is_marked_disk h v ≡ false → header_cause h v ≡ Some reply.NoImage
 unmarked_cause h v e =

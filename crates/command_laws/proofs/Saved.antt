@@ -1,17 +1,14 @@
 -- The steps of a hibernation, from its event to what it answers at the end.
-use Rattle.std.proofs.Common.{◌≡◌, ◌⊎◌, inl, inr, ◌≤◌, ℕ, ◌+◌, zero, suc, Bool, true, false, cond, length, map, filter, List, ◌∷◌, [], Option, Some, None, unwrap_or, refl, sym, ap, ◌∙◌, subst, arith, Contains}
+use Rattle.std.proofs.Common.{◌≡◌, ◌⊎◌, inl, inr, ◌≤◌, ℕ, ◌+◌, zero, suc, Bool, true, false, cond, length, filter, List, ◌∷◌, [], Option, Some, None, unwrap_or, refl, sym, ap, ◌∙◌, subst, arith, Contains}
 use Rattle.std.specs.List.{AllByRecursion}
 use Rattle.std.proofs.lemmas.Bool.{false≢true}
 use Rattle.std.proofs.lemmas.List.Elements.{All-from_recursion, All-contains}
-use Rattle.std.proofs.lemmas.List.{length-map}
 use Rattle.std.proofs.lemmas.Option.{same_Some, none-some}
 use Rattle.page_core.specs.declared.format.Format.{Format}
 use Rattle.definitions.specs.Disk as disk
-use Rattle.definitions.specs.Tables.{frame}
-use Rattle.definitions.specs.ZoneFacts.{AreZones}
 use Rattle.plain_machine.specs.Chain.{Holds, or_else}
-use Rattle.plain_machine.specs.Image.{Image, image_of_memory, n_of, d_of, hibernate_steps, has_data}
-use Rattle.plain_machine.specs.Machine.{Hardware, Memory, block_of_slot, saveable}
+use Rattle.plain_machine.specs.Image.{Image, image_of_memory, n_of}
+use Rattle.plain_machine.specs.Machine.{Hardware, block_of_slot}
 use Rattle.plain_machine.specs.Refusals.{refusal, refused_if, busy, busy_task, busy_reply, closed, no_swap, no_frames, no_slots, hibernate_refusal}
 use Rattle.plain_machine.specs.Shows.{WorldView}
 use Rattle.plain_machine.specs.Stands.{EachImage, IsOwn, Stands, laid_blocks}
@@ -25,7 +22,6 @@ use Rattle.plain_machine.specs.declared.reply.UndoCall.{UndoCall}
 use Rattle.plain_machine.specs.declared.reply.UndoCall.TheVariants as undo
 use Rattle.plain_machine.specs.declared.event.Actor.TheVariants as actor
 use Rattle.plain_machine.specs.Step.{Step, Outcome, undo_step}
-use Rattle.image_laws.proofs.Decoding.{few_saveable}
 use Rattle.protocol_laws.specs.Rows.{LeavesBlock, blocks_written, TellsNewFault}
 use Rattle.protocol_laws.proofs.Unwritten.{step_in_laid}
 use Rattle.protocol_laws.proofs.WrittenWhileHeld.{header_alone}
@@ -35,7 +31,7 @@ use Rattle.command_laws.specs.Hibernations.{EndsInFault, hibernation_answer, ima
 use Rattle.command_laws.specs.Points.{Point, AreSteps, HasGone}
 use Rattle.command_core.specs.declared.ending.Ended.{Ended}
 use Rattle.command_laws.proofs.Begun.{IsUntouched}
-use Rattle.command_laws.proofs.Hibernating.{IsAt, after_steps, few_steps, undoing_step}
+use Rattle.command_laws.proofs.Hibernating.{IsAt, after_steps, undoing_step}
 use Rattle.world_runs.proofs.Leaving.{leaves_then}
 
 -- Refusals of a hibernation are none of the replies of its steps.
@@ -203,19 +199,6 @@ filter_few : {A : Type 0} (test : A → Bool) (xs : List A) → length (filter t
 filter_few test [] = omega arith
 filter_few test (x ∷ xs) = let few = one_more (test x) x (filter test xs) (length xs) (filter_few test xs) in omega arith
 
-few_saved : (h : Hardware) (m : Memory) (slots : _) (f : Format) → AreZones h.zones → (n_of (image_of_memory h m slots f) ≤ 65536) × (d_of (image_of_memory h m slots f) ≤ 65536)
-few_saved h m slots f zones =
-    let i = image_of_memory h m slots f in
-    let pair : ℕ → ℕ × List ℕ = λ p. (p, frame m p) in
-    let few : length (saveable h m) ≤ 65536 = few_saveable h m zones in
-    let size : length (map pair (saveable h m)) ≡ length (saveable h m) = length-map (saveable h m) pair in
-    let some : length (filter (has_data f) (map pair (saveable h m))) ≤ length (map pair (saveable h m)) = filter_few (has_data f) (map pair (saveable h m)) in
-    let n : n_of i ≤ 65536 = omega arith in
-    (n, omega arith)
-
-few_of : (i : Image) → n_of i ≤ 65536 → d_of i ≤ 65536 → hibernate_steps i ≤ 65798
-few_of i n d = omega arith
-
 -- The end.
 
 abbrev EndsAs : Image → Reply → State → Bool → Type 0
@@ -229,10 +212,6 @@ ends_at i a n (reply.ReadFault left) b failed at over = inr (tt, at)
 ends_at i a n (reply.WriteFault left) b failed at over = inr (tt, at)
 ends_at i a n (reply.SyncFault left) b failed at over = inr (tt, at)
 ends_at i a n _ b failed at over = absurd at
-
-over_at_last : (steps n : ℕ) (r : Reply) → (goes_on r ≡ false) ⊎ (steps ≡ 66000) → steps ≤ n + 2 → n ≤ 65798 → goes_on r ≡ false
-over_at_last steps n r (inl over) few short = over
-over_at_last steps n r (inr most) few short = absurd (omega arith)
 
 holds_by : (h : Hardware) (shown : WorldView) (c : disk.Content) (b : State) (i : Image) → Stands h shown c b → b ≡ off (sure (own i)) None → EachImage c (λ w. Holds h w i × IsOwn h w i)
 holds_by h shown c b i stands is = (subst (Stands h shown c) is stands).parts.held
@@ -249,21 +228,19 @@ answer_at h a f v r b failed none (inl is) = inl (is.0 ∙ sym (ap (λ (o : Opti
 answer_at h a f v r b failed none (inr fault) = inr fault
 
 -- It was not refused.
-pub saves : (h : Hardware) (a : Running) (f : Format) (v : disk.DiskImage) (shown : WorldView) (start : Point) (ended : Ended) (told : Option disk.Content) (now : disk.Content) → AreZones h.zones → told ≡ Some now → start.failed ≡ false → IsUntouched v start → refusal h (on a) (event.Hibernate f) ≡ None →
+pub saves : (h : Hardware) (a : Running) (f : Format) (v : disk.DiskImage) (shown : WorldView) (start : Point) (ended : Ended) (told : Option disk.Content) (now : disk.Content) → told ≡ Some now → start.failed ≡ false → IsUntouched v start → refusal h (on a) (event.Hibernate f) ≡ None →
     IsAt (image_to_save h a f) a 0 start.reply start.state start.failed → HasGone h start ended shown now → HasHibernated h a f v ended told
-saves h a f v shown start ended told now zones says unfailed is none at gone =
+saves h a f v shown start ended told now says unfailed is none at gone =
     let i = image_to_save h a f in
     let end = gone.end in
-    let few = few_saved h a.memory a.slots f zones in
-    let over = over_at_last gone.steps (hibernate_steps i) ended.reply gone.over (few_steps h i a gone.steps start end at gone.are) (few_of i few.0 few.1) in
-    let ends : EndsAs i end.reply end.state end.failed = ends_at i a gone.steps end.reply end.state end.failed (after_steps h i a gone.steps start end at gone.are) (ap goes_on gone.reply_is ∙ over) in
+    let ends : EndsAs i end.reply end.state end.failed = ends_at i a gone.steps end.reply end.state end.failed (after_steps h i a gone.steps start end at gone.are) (ap goes_on gone.reply_is ∙ gone.over) in
     let here : EndsAs i ended.reply end.state ended.failed = subst (λ (b : Bool). EndsAs i ended.reply end.state b) gone.failed_is (subst (λ (r : Reply). EndsAs i r end.state end.failed) gone.reply_is ends) in
     record {
       content = end.content;
       told = says ∙ ap Some (sym gone.content_is);
       answer = exactly (ended.reply ≡ hibernation_answer h a f) ended.reply ended.failed (answer_at h a f v ended.reply end.state ended.failed none here)
-          (λ failed. fault_at_end ended.reply over (subst ShowsFault gone.reply_is (shows_fault h i a gone.steps start end unfailed at gone.are (gone.failed_is ∙ failed))));
-      over = over;
+          (λ failed. fault_at_end ended.reply gone.over (subst ShowsFault gone.reply_is (shows_fault h i a gone.steps start end unfailed at gone.are (gone.failed_is ∙ failed))));
+      over = gone.over;
       image = λ n hibernated. image_at h shown end.content i ended.reply end.state ended.failed n gone.stands here hibernated;
       unwritten = (all_after h i a v gone.steps start end is at gone.are).unwritten;
       refused = λ r refused b. absurd (none-some r (sym none ∙ refused));

@@ -1,24 +1,20 @@
 -- The trace of a resume counts its steps, ends with a reply after which no step is left, and is short.
 use Rattle.std.proofs.Common.{◌≡◌, ◌≤◌, ◌⊎◌, ℕ, ◌+◌, inl, inr, zero, suc, Bool, true, false, cond, not, length, get_or, List, [], ◌∷◌, Option, Some, None, slice_get, refl, sym, ap, ◌∙◌, subst, arith, nat_eq}
 use Rattle.std.specs.Cmp.Lexicographic.{pointwise}
-use Rattle.std.proofs.lemmas.Bool.{cases_Bool, cases_lt, false≢true}
-use Rattle.std.proofs.lemmas.List.{take_all, get_or_past}
+use Rattle.std.proofs.lemmas.Bool.{cases_lt, false≢true}
+use Rattle.std.proofs.lemmas.List.{get_or_past}
 use Rattle.std.proofs.lemmas.Option.{same_Some, none-some}
 use Rattle.definitions.specs.Disk as disk
 use Rattle.definitions.specs.SwapHeader.{flags_of, sig_of, image_signature}
-use Rattle.definitions.specs.Zones.{numbers}
-use Rattle.definitions.specs.ZoneFacts.{AreZones}
-use Rattle.definitions.proofs.ZoneNumbers.{length-numbers_front}
 use Rattle.plain_machine.specs.Machine.{Hardware, Memory, valid_count}
 use Rattle.plain_machine.specs.Chain.{header_of, or_else}
-use Rattle.plain_machine.specs.Trace.{page_at, place, place_count, is_set, info_in, format_in, are_bad_counts, identity_cause, memory_cause, counts_cause, info_cause, want_cause, content_cause, next_cause, cause_at, causes, replies_to, header_cause, taken_back_cause, last_reply, trace}
+use Rattle.plain_machine.specs.Trace.{place_count, is_set, info_in, format_in, are_bad_counts, identity_cause, memory_cause, counts_cause, info_cause, cause_at, step_cause, step_count, causes, replies_to, header_cause, taken_back_cause, last_reply, trace}
 use Rattle.plain_machine.specs.declared.event.Loader.TheVariants.{Table}
 use Rattle.plain_machine.specs.declared.event.IdentCheck.{IdentCheck}
 use Rattle.plain_machine.specs.declared.reply.Reply.{Reply}
 use Rattle.plain_machine.specs.declared.reply.Reply.TheVariants as reply
-use Rattle.plain_machine.proofs.Traces.{replies_short, replies_end, causes_count, causes_at}
-use Rattle.image_read.proofs.Counts.{fits_in}
-use Rattle.protocol_laws.proofs.Stopping.{Stops, is_no_stop, stops_else, stops_content, stops_next, stops_taken_back}
+use Rattle.plain_machine.proofs.Traces.{causes_count, causes_at}
+use Rattle.protocol_laws.proofs.Stopping.{Stops, is_no_stop, stops_cause, stops_taken_back}
 use Rattle.command_laws.specs.Resumptions.{IsLast}
 use Rattle.command_core.specs.Runs.{goes_on}
 
@@ -75,19 +71,21 @@ back_ends h v = stop_ends (taken_back_cause h v) (stops_taken_back h v)
 
 cause_ends_at : (h : Hardware) (dump : Memory) (v : disk.DiskImage) (check : IdentCheck) (t : ℕ) → Ends (cause_at h dump v Table check t)
 cause_ends_at h dump v check t =
-    let content = content_cause h dump v Table check (place t) in
-    stop_ends (cause_at h dump v Table check t) (stops_else content (next_cause h v t) (stops_content h dump v Table check (place t)) (stops_next h v t))
+    stop_ends (cause_at h dump v Table check t) (stops_cause h dump v Table check t)
 
-causes_end : (h : Hardware) (dump : Memory) (v : disk.DiskImage) (check : IdentCheck) (i : ℕ) → Ends (get_or (causes h dump v Table check) i None)
-causes_end h dump v check zero = tt
-causes_end h dump v check (suc zero) = header_ends h v
-causes_end h dump v check (suc (suc zero)) = tt
-causes_end h dump v check (suc (suc (suc zero))) = back_ends h v
-causes_end h dump v check (suc (suc (suc (suc t)))) =
+step_ends : (h : Hardware) (dump : Memory) (v : disk.DiskImage) (check : IdentCheck) (k : ℕ) → Ends (step_cause h dump v Table check k)
+step_ends h dump v check zero = tt
+step_ends h dump v check (suc zero) = header_ends h v
+step_ends h dump v check (suc (suc zero)) = tt
+step_ends h dump v check (suc (suc (suc zero))) = back_ends h v
+step_ends h dump v check (suc (suc (suc (suc t)))) = cause_ends_at h dump v check t
+
+causes_end : (h : Hardware) (dump : Memory) (v : disk.DiskImage) (check : IdentCheck) (k : ℕ) → Ends (get_or (causes h dump v Table check) k None)
+causes_end h dump v check k =
     let count = causes_count h dump v Table check in
-    elim (cases_lt t (place_count (info_in h v).pages)) [
-      | inl lt ↦ subst (λ (o : Option Reply). Ends o) (sym (causes_at h dump v Table check t lt)) (cause_ends_at h dump v check t)
-      | inr past ↦ subst (λ (o : Option Reply). Ends o) (sym (get_or_past (causes h dump v Table check) (suc (suc (suc (suc t)))) None (omega arith))) tt
+    elim (cases_lt k (step_count h v)) [
+      | inl lt ↦ subst (λ (o : Option Reply). Ends o) (sym (causes_at h dump v Table check k lt)) (step_ends h dump v check k)
+      | inr past ↦ subst (λ (o : Option Reply). Ends o) (sym (get_or_past (causes h dump v Table check) k None (omega arith))) tt
     ]
 
 pub trace_counts : (h : Hardware) (dump : Memory) (v : disk.DiskImage) (check : IdentCheck) → CountFrom 1 (trace h dump v Table check)
@@ -111,60 +109,3 @@ counted_at k (suc n) (x ∷ y ∷ rest) r counts at = elim (counted_at (k + 1) n
   | inl is ↦ inl (is ∙ ap reply.Loading (let e : k + 1 + n ≡ k + suc n = omega arith in e))
   | inr last ↦ inr (last.0, last_more x r (y ∷ rest) last.1)
 ]
-
--- It is short.
-
-abbrev IsThere : Option Reply → Type 0
-IsThere None = ⊥
-IsThere (Some r) = Unit {0}
-
-there_first : (o p : Option Reply) → IsThere o → IsThere (or_else o p)
-there_first None p is = absurd is
-there_first (Some r) p is = tt
-
-there_then : (o p : Option Reply) → IsThere p → IsThere (or_else o p)
-there_then None p is = is
-there_then (Some r) p is = tt
-
-bad_counts_there : (bad : Bool) (r : Reply) → bad ≡ true → IsThere (cond bad (Some r) None)
-bad_counts_there true r e = tt
-bad_counts_there false r e = absurd (false≢true e)
-
-bad_content : (h : Hardware) (dump : Memory) (v : disk.DiskImage) (check : IdentCheck) → are_bad_counts (format_in h v) (valid_count h) (info_in h v).image_pages (info_in h v).pages ≡ true → IsThere (content_cause h dump v Table check (page_at 0))
-bad_content h dump v check bad =
-    let counts = bad_counts_there (are_bad_counts (format_in h v) (valid_count h) (info_in h v).image_pages (info_in h v).pages) (reply.BadCounts (info_in h v).image_pages (info_in h v).pages) bad in
-    there_first (info_cause h v check) (want_cause h dump v Table (page_at 0))
-    (there_then (identity_cause h v check) (or_else (memory_cause h v) (counts_cause h v)) (there_then (memory_cause h v) (counts_cause h v) counts))
-
-some_places : (pages : ℕ) → 2 ≤ place_count pages
-some_places pages = omega arith
-
--- with such counts it ends at the info page
-bad_short : (h : Hardware) (dump : Memory) (v : disk.DiskImage) (check : IdentCheck) → IsThere (content_cause h dump v Table check (page_at 0)) → length (trace h dump v Table check) ≤ 6
-unfolding trace
-bad_short h dump v check there =
-    let at = causes_at h dump v Table check 1 (some_places (info_in h v).pages) in
-    let cause = there_first (content_cause h dump v Table check (page_at 0)) (next_cause h v 1) there in
-    replies_end (last_reply h dump v Table) 1 (causes h dump v Table check) 5 (λ none. subst IsThere (sym at ∙ none) cause)
-
-few_valid : (h : Hardware) → AreZones h.zones → valid_count h ≤ 65536
-few_valid h are = subst (λ (zones : List (ℕ × ℕ)). length (numbers zones) ≤ 65536) (take_all (length h.zones) h.zones (omega arith)) (length-numbers_front h.zones (length h.zones) are)
-
-few_places : (pages : ℕ) → pages ≤ 65665 → place_count pages ≤ 65794
-few_places pages few = omega arith
-
-pub trace_short : (h : Hardware) (dump : Memory) (v : disk.DiskImage) (check : IdentCheck) → AreZones h.zones → length (trace h dump v Table check) ≤ 65798
-unfolding trace
-trace_short h dump v check are =
-    let pages = (info_in h v).pages in
-    let valid = few_valid h are in
-    elim (cases_Bool (are_bad_counts (format_in h v) (valid_count h) (info_in h v).image_pages pages)) [
-      | inl bad ↦ (let six = bad_short h dump v check (bad_content h dump v check bad) in omega arith)
-      | inr good ↦ (
-          let fits = fits_in (format_in h v) (valid_count h) (info_in h v) valid good in
-          let few = few_places pages fits.pages.few in
-          let count = causes_count h dump v Table check in
-          let short = replies_short (last_reply h dump v Table) 1 (causes h dump v Table check) in
-          omega arith
-          )
-    ]

@@ -64,7 +64,7 @@ pub record IsLeftInside (h : Hardware) (start : Point) (w : disk.DiskImage) : Ty
   pub mixed : disk.IsMixture before.content after.content w
 
 -- So many steps from this point on have led to the end, which is shown so, over what the disk then holds. Nothing is
--- left to do there, or it is step 66,000.
+-- left to do there.
 pub record HasGone (h : Hardware) (start : Point) (ended : Ended) (shown : WorldView)
     (now : disk.Content) : Type 0 where
   pub steps : ℕ
@@ -75,4 +75,4 @@ pub record HasGone (h : Hardware) (start : Point) (ended : Ended) (shown : World
   pub stands : Stands h shown end.content end.state
   pub frames : end.frames ≡ shown.frames
   pub content_is : end.content ≡ now
-  pub over : (goes_on ended.reply ≡ false) ⊎ (steps ≡ 66000)
+  pub over : goes_on ended.reply ≡ false

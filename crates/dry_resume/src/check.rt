@@ -1,7 +1,6 @@
 ghost use Rattle.std.specs.Prelude.{◌≡◌, ◌≤◌, ◌+◌, IsTrue, Some, IfOk};
 ghost use Rattle.definitions.specs.Disk.{Content, HasRisen, as_it_reads};
 ghost use Rattle.plain_machine.specs.Chain.{Marked};
-ghost use Rattle.plain_machine.specs.Machine.{IsHardware};
 ghost use Rattle.plain_machine.specs.UsableArea.{HasOriginal};
 ghost use Rattle.world_core.specs.StandsFor.{IsNewWorld, hardware_of};
 ghost use Rattle.overlay_disk.specs.DiskState.{IsSame};
@@ -22,7 +21,6 @@ pub fn would_resume<D: Disk>(
     disk: &mut D,
     check: IdentCheck,
 ) -> Result<Ended, NoMemory>
-    requires hardware { IsHardware (hardware_of world.old) }
     requires new { IsNewWorld (hardware_of world.old) (Some world.old.frames) world.old }
     ensures resumed { (c : Content) → D.content disk.old ≡ Some c →
         (Marked (hardware_of world.old) (as_it_reads c) → HasOriginal (hardware_of world.old) (as_it_reads c)) →
@@ -34,7 +32,7 @@ pub fn would_resume<D: Disk>(
     ensures faults { D.faults disk.old ≤ D.faults disk.new }
 
     ensures untouched { D.content disk.new ≡ D.content disk.old }
-    ensures calls { D.calls disk.new ≤ D.calls disk.old + 66000 }
+    ensures calls { D.calls disk.new ≤ D.calls disk.old + 65800 }
     ensures orders { D.orders disk.new ≡ D.orders disk.old }
     ensures blocks { D.block_count disk.new ≡ D.block_count disk.old }
 {
@@ -49,7 +47,6 @@ fn resume_over<B: ReadOnly + Drop, K: Original>(
     below: B,
     check: IdentCheck,
 ) -> (B, Result<Ended, NoMemory>)
-    requires hardware { IsHardware (hardware_of world.old) }
     requires new { IsNewWorld (hardware_of world.old) (Some world.old.frames) world.old }
     requires original { B.state below ≡ K.state }
     ensures resumed { (c : Content) → K.state.content ≡ Some c →
@@ -59,7 +56,7 @@ fn resume_over<B: ReadOnly + Drop, K: Original>(
     ensures cause { IfOk result.1 (λ ended. IsTrue ended.failed → HasRisen K.state.faults (B.state result.0).faults) }
     ensures faults { K.state.faults ≤ (B.state result.0).faults }
     ensures same { IsSame K.state (B.state result.0) }
-    ensures calls { (B.state result.0).calls ≤ K.state.calls + 66000 }
+    ensures calls { (B.state result.0).calls ≤ K.state.calls + 65800 }
 {
     let mut overlay = Overlay::<B, K>::over(below);
     let ended = resume(world, &mut overlay, check);

@@ -1,5 +1,6 @@
 -- Page frames whose pages lie in places: what is seen of them, and what holds of the places.
-use Rattle.std.specs.Prelude.{◌≡◌, ◌<◌, ◌≤◌, ◌+◌, ◌^◌, ℕ, zero, suc, List, [], length, map, slice_index, slice_index_or, nat_le}
+use Rattle.std.specs.Prelude.{◌≡◌, ◌<◌, ◌≤◌, ◌+◌, ◌^◌, ℕ, zero, suc, List, [], length, map, slice_index, slice_index_or}
+use Rattle.std.specs.Prelude.{nat_le}
 use Rattle.std.specs.List.{count_by}
 use Rattle.definitions.specs.Bytes.{zero_page, filled_page}
 use Rattle.frame_arena.specs.Whole.{whole}

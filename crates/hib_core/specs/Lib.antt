@@ -3,4 +3,5 @@ pub mod Hibernation
 pub mod Leaving
 pub mod Ready
 pub mod Row
+pub mod StepsLeft
 pub mod Writes

@@ -113,6 +113,7 @@ impl Hib {
     ghost use Rattle.hib_core.specs.Ready.{CanStep, IsBusy, IsSameMachine};
     ghost use Rattle.hib_core.specs.Leaving.{Leaves, change_of};
     ghost use Rattle.hib_core.specs.Row.{SimulatesWhereTold};
+    ghost use Rattle.hib_core.specs.StepsLeft.{saving_steps_left};
 
     /// No hibernation, with the memory for every one of this machine.
     pub fn create(alloc: Global, hw: &Hardware) -> Result<Hib, NoMemory>
@@ -140,6 +141,7 @@ impl Hib {
             (event.Step actor.Core) result (D.content disk.old) (D.content disk.new) }
         ensures phase { phase_of self.new ≡ phase_told result }
         ensures zones { self.new.snapshot.zones ≡ self.old.snapshot.zones }
+        ensures fewer { saving_steps_left self.new < saving_steps_left self.old }
         ensures works { is_idle result ≡ false }
         ensures ready { CanStep machine.new frames.new runs.new self.new }
         ensures machine { IsSameMachine machine.old machine.new }

@@ -26,6 +26,7 @@ impl Hib {
     ghost use Rattle.hib_core.specs.Ready.{CanStep};
     ghost use Rattle.hib_core.specs.Leaving.{Leaves, change_of};
     ghost use Rattle.hib_core.specs.Row.{SimulatesWhereTold};
+    ghost use Rattle.hib_core.specs.StepsLeft.{saving_steps_left};
 
     /// Writes the header block with the mark. Where that fails the mark may be there or not: an undo begins.
     pub(crate) fn write_mark<D: Disk>(
@@ -42,6 +43,7 @@ impl Hib {
             (event.Step actor.Core) result (D.content disk.old) (D.content disk.new) }
         ensures phase { phase_of self.new ≡ phase_told result }
         ensures zones { self.new.snapshot.zones ≡ self.old.snapshot.zones }
+        ensures fewer { saving_steps_left self.new < saving_steps_left self.old }
         ensures works { is_idle result ≡ false }
         ensures ready { CanStep machine.now frames.now runs.now self.new }
         ensures memory { Leaves (change_of result self.old.stage) machine.now.hw frames.now frames.now }
@@ -78,6 +80,7 @@ impl Hib {
             (event.Step actor.Core) result (D.content disk.old) (D.content disk.new) }
         ensures phase { phase_of self.new ≡ phase_told result }
         ensures zones { self.new.snapshot.zones ≡ self.old.snapshot.zones }
+        ensures fewer { saving_steps_left self.new < saving_steps_left self.old }
         ensures works { is_idle result ≡ false }
         ensures ready { CanStep machine.now frames.now runs.now self.new }
         ensures memory { Leaves (change_of result self.old.stage) machine.now.hw frames.now frames.now }

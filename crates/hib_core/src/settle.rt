@@ -1,4 +1,4 @@
-ghost use Rattle.std.specs.Prelude.{◌≡◌, false, ℕ, List, ◌⊎◌, nat_eq};
+ghost use Rattle.std.specs.Prelude.{◌≡◌, false, ℕ, List, ◌<◌, ◌⊎◌, nat_eq};
 ghost use Rattle.std.specs.Cmp.Lexicographic.{pointwise};
 ghost use Rattle.definitions.specs.Disk.{Content};
 ghost use Rattle.definitions.specs.SwapHeader.{sig_of, image_signature};
@@ -32,6 +32,7 @@ impl Hib {
     ghost use Rattle.hib_core.specs.Ready.{CanBegin, CanStep, IsBusy, IsSameMachine};
     ghost use Rattle.hib_core.specs.Leaving.{Leaves, change_of};
     ghost use Rattle.hib_core.specs.Row.{SimulatesWhereTold, IsBegun};
+    ghost use Rattle.hib_core.specs.StepsLeft.{saving_steps_left};
 
     /// Begins a settling, or refuses it where a task has an unfinished operation, or nothing is held.
     pub(crate) fn settle(&mut self, machine: &Machine, frames: &Frames, runs: &FreeRuns) -> Reply
@@ -74,6 +75,7 @@ impl Hib {
             (event.Step actor.Core) result (D.content disk.old) (D.content disk.new) }
         ensures phase { phase_of self.new ≡ phase_told result }
         ensures zones { self.new.snapshot.zones ≡ self.old.snapshot.zones }
+        ensures fewer { saving_steps_left self.new < saving_steps_left self.old }
         ensures works { is_idle result ≡ false }
         ensures ready { CanStep machine.now frames.now runs.now self.new }
         ensures memory { Leaves (change_of result self.old.stage) machine.now.hw frames.now frames.now }
@@ -108,6 +110,7 @@ impl Hib {
             (event.Step actor.Core) result (D.content disk.old) (D.content disk.new) }
         ensures phase { phase_of self.new ≡ phase_told result }
         ensures zones { self.new.snapshot.zones ≡ self.old.snapshot.zones }
+        ensures fewer { saving_steps_left self.new < saving_steps_left self.old }
         ensures works { is_idle result ≡ false }
         ensures ready { CanStep machine.new frames.now runs.now self.new }
         ensures memory { Leaves (change_of result self.old.stage) machine.old.hw frames.now frames.now }
@@ -147,6 +150,7 @@ impl Hib {
             (event.Step actor.Core) result (D.content disk.old) (D.content disk.new) }
         ensures phase { phase_of self.new ≡ phase_told result }
         ensures zones { self.new.snapshot.zones ≡ self.old.snapshot.zones }
+        ensures fewer { saving_steps_left self.new < saving_steps_left self.old }
         ensures works { is_idle result ≡ false }
         ensures ready { CanStep machine.new frames.new runs.new self.new }
         ensures memory { Leaves (change_of result self.old.stage) machine.old.hw frames.old frames.new }

@@ -25,6 +25,7 @@ impl Hib {
     ghost use Rattle.hib_core.specs.Ready.{CanStep, IsSameMachine};
     ghost use Rattle.hib_core.specs.Leaving.{Leaves, change_of};
     ghost use Rattle.hib_core.specs.Row.{SimulatesWhereTold};
+    ghost use Rattle.hib_core.specs.StepsLeft.{saving_steps_left};
 
     /// Writes the header block taken back.
     pub(crate) fn take_back<D: Disk>(
@@ -41,6 +42,7 @@ impl Hib {
             (event.Step actor.Core) result (D.content disk.old) (D.content disk.new) }
         ensures phase { phase_of self.new ≡ phase_told result }
         ensures zones { self.new.snapshot.zones ≡ self.old.snapshot.zones }
+        ensures fewer { saving_steps_left self.new < saving_steps_left self.old }
         ensures works { is_idle result ≡ false }
         ensures ready { CanStep machine.new frames.now runs.now self.new }
         ensures memory { Leaves (change_of result self.old.stage) machine.old.hw frames.now frames.now }
@@ -80,6 +82,7 @@ impl Hib {
             (event.Step actor.Core) result (D.content disk.old) (D.content disk.new) }
         ensures phase { phase_of self.new ≡ phase_told result }
         ensures zones { self.new.snapshot.zones ≡ self.old.snapshot.zones }
+        ensures fewer { saving_steps_left self.new < saving_steps_left self.old }
         ensures works { is_idle result ≡ false }
         ensures ready { CanStep machine.new frames.new runs.new self.new }
         ensures memory { Leaves (change_of result self.old.stage) machine.old.hw frames.old frames.new }

@@ -37,6 +37,7 @@ impl Hib {
     ghost use Rattle.image_write.specs.Writing.{Writing};
     ghost use Rattle.hib_core.specs.Leaving.{Leaves, change_of};
     ghost use Rattle.hib_core.specs.Row.{SimulatesWhereTold};
+    ghost use Rattle.hib_core.specs.StepsLeft.{saving_steps_left};
 
     /// Writes the next page or map.
     pub(crate) fn write_next<D: Disk>(
@@ -53,6 +54,7 @@ impl Hib {
             (event.Step actor.Core) result (D.content disk.old) (D.content disk.new) }
         ensures phase { phase_of self.new ≡ phase_told result }
         ensures zones { self.new.snapshot.zones ≡ self.old.snapshot.zones }
+        ensures fewer { saving_steps_left self.new < saving_steps_left self.old }
         ensures works { is_idle result ≡ false }
         ensures ready { CanStep machine.now frames.new runs.new self.new }
         ensures memory { Leaves (change_of result self.old.stage) machine.now.hw frames.old frames.new }
@@ -94,6 +96,7 @@ impl Hib {
             (event.Step actor.Core) result (D.content disk.old) (D.content disk.new) }
         ensures phase { phase_of self.new ≡ phase_told result }
         ensures zones { self.new.snapshot.zones ≡ self.old.snapshot.zones }
+        ensures fewer { saving_steps_left self.new < saving_steps_left self.old }
         ensures works { is_idle result ≡ false }
         ensures ready { CanStep machine.now frames.new runs.new self.new }
         ensures memory { Leaves (change_of result self.old.stage) machine.now.hw frames.old frames.new }
@@ -128,6 +131,7 @@ impl Hib {
             (event.Step actor.Core) result (D.content disk.old) (D.content disk.new) }
         ensures phase { phase_of self.new ≡ phase_told result }
         ensures zones { self.new.snapshot.zones ≡ self.old.snapshot.zones }
+        ensures fewer { saving_steps_left self.new < saving_steps_left self.old }
         ensures works { is_idle result ≡ false }
         ensures ready { CanStep machine.now frames.new runs.new self.new }
         ensures memory { Leaves (change_of result self.old.stage) machine.now.hw frames.old frames.new }

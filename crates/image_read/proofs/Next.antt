@@ -7,7 +7,7 @@ use Rattle.swap_map.specs.MapPages.{NumberedPage}
 use Rattle.plain_machine.specs.Machine.{Hardware}
 use Rattle.plain_machine.specs.Chain.{is_fault_of, map_block, entry_block, map_fault, or_else}
 use Rattle.plain_machine.specs.Chain.{block_fault as block_cause}
-use Rattle.plain_machine.specs.Trace.{first_map, info_in, place, place_count, place_cause, read_cause, next_cause}
+use Rattle.plain_machine.specs.Trace.{first_map, info_in, place, place_count, place_cause, read_cause, next_cause, cause_with}
 use Rattle.plain_machine.specs.declared.event.IdentCheck.{IdentCheck}
 use Rattle.plain_machine.specs.declared.reply.Reply.{Reply}
 use Rattle.plain_machine.specs.declared.reply.Reply.TheVariants as reply
@@ -15,7 +15,7 @@ use Rattle.image_read.specs.Causes.{reply_of}
 use Rattle.image_read.specs.Reading.{Reading}
 use Rattle.image_read.specs.Faults.{block_fault, named_block, named_fault}
 use Rattle.image_read.specs.Taking.{Advances}
-use Rattle.image_read.specs.Stream.{IsAreaOf, HasReadPlaces, place_block, pages_read, known_pages, step_cause}
+use Rattle.image_read.specs.Stream.{IsAreaOf, HasReadPlaces, place_block, pages_read, known_pages}
 use Rattle.image_read.specs.declared.cause.Cause.{Cause}
 use Rattle.image_read.specs.declared.cause.Cause.TheVariants.{BadBlock, ChainEnds}
 use Rattle.image_read.proofs.Over.{as_reply, as_reply-cond, cond-none, same_fault}
@@ -99,7 +99,7 @@ both_none None b h g = g
 both_none (Some x) b h g = h
 
 -- a cause of the next block
-pub next_refused : (h : Hardware) (v : disk.DiskImage) (check : IdentCheck) (r after : Reading) (t : ℕ) (origs zeros : List ℕ) (cause : Cause) → IsRead h v check r t (pages_read (t + 1)) origs zeros → Advances r (Err cause) after → step_cause h v check t ≡ Some (reply_of cause)
+pub next_refused : (h : Hardware) (v : disk.DiskImage) (check : IdentCheck) (r after : Reading) (t : ℕ) (origs zeros : List ℕ) (cause : Cause) → IsRead h v check r t (pages_read (t + 1)) origs zeros → Advances r (Err cause) after → cause_with h v check None t ≡ Some (reply_of cause)
 next_refused h v check r after t origs zeros cause read on =
     let steps_is = read.steps in
     let pages_is = ap place_count read.pages in
@@ -134,14 +134,14 @@ named_sound r s h =
     ]
 
 -- one place more
-sound_more : (h : Hardware) (v : disk.DiskImage) (check : IdentCheck) (t : ℕ) → ((s : ℕ) → s < t → step_cause h v check s ≡ None) → step_cause h v check t ≡ None → (s : ℕ) → s < t + 1 → step_cause h v check s ≡ None
+sound_more : (h : Hardware) (v : disk.DiskImage) (check : IdentCheck) (t : ℕ) → ((s : ℕ) → s < t → cause_with h v check None s ≡ None) → cause_with h v check None t ≡ None → (s : ℕ) → s < t + 1 → cause_with h v check None s ≡ None
 sound_more h v check t before here s lt = elim (cases_lt s t) [
   | inl below ↦ before s below
-  | inr ge ↦ let same : t ≡ s = omega arith in subst (λ (i : ℕ). step_cause h v check i ≡ None) same here
+  | inr ge ↦ let same : t ≡ s = omega arith in subst (λ (i : ℕ). cause_with h v check None i ≡ None) same here
 ]
 
 pub record IsNext (h : Hardware) (v : disk.DiskImage) (check : IdentCheck) (t : ℕ) (after : Reading) (origs zeros : List ℕ) : Type 0 where
-  pub cause : step_cause h v check t ≡ None
+  pub cause : cause_with h v check None t ≡ None
   pub reading : HasReadPlaces h v check after (t + 1) origs zeros
 
 map_kept : (h : Hardware) (v : disk.DiskImage) (t : ℕ) (m : NumberedPage) → m ≡ record { page = disk.block v (map_block v (first_map h v) (t / 512)); map = t / 512 + 1 } → ((t + 1) % 512 ≡ 0 → ⊥) → m ≡ record { page = disk.block v (map_block v (first_map h v) ((t + 1) / 512)); map = (t + 1) / 512 + 1 }
@@ -157,7 +157,7 @@ goes_on h v check r after t origs zeros x read (inl over) =
       | inl lt ↦ absurd (over.0 (omega arith))
       | inr ge ↦ ge
     ] in
-    let cause : step_cause h v check t ≡ None = both_none (read_cause h v check (place t)) (next_cause h v t) read.cause (no_next h v t le) in
+    let cause : cause_with h v check None t ≡ None = both_none (read_cause h v check (place t)) (next_cause h v t) read.cause (no_next h v t le) in
     let counted : HasReadPlaces h v check (record r { steps = r.steps + 1 }) (t + 1) origs zeros = record {
       area = read.area;
       steps = ap (λ (s : ℕ). s + 1) read.steps;
@@ -186,7 +186,7 @@ goes_on h v check r after t origs zeros x read (inr on) =
     let has = has_map h v check r t (pages_read (t + 1)) origs zeros read in
     let fault : named_fault r (t + 1) ≡ None = ap (λ (s : ℕ). named_fault r (s + 1)) (sym steps_is) ∙ on.1 in
     let place_none : place_cause h v (place (t + 1)) ≡ None = sym (named_fault_is h v r t has read.area) ∙ ap as_reply fault in
-    let cause : step_cause h v check t ≡ None = both_none (read_cause h v check (place t)) (next_cause h v t) read.cause (next_there h v t lt ∙ place_none) in
+    let cause : cause_with h v check None t ≡ None = both_none (read_cause h v check (place t)) (next_cause h v t) read.cause (next_there h v t lt ∙ place_none) in
     let named : named_block r (r.steps + 1) ≡ place_block h v (place (t + 1)) = ap (λ (s : ℕ). named_block r (s + 1)) steps_is ∙ named_is h v r t has in
     let counted : HasReadPlaces h v check (record r { steps = r.steps + 1; block = named_block r (r.steps + 1) }) (t + 1) origs zeros = record {
       area = read.area;

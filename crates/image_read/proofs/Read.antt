@@ -6,16 +6,16 @@ use Rattle.definitions.specs.Disk as disk
 use Rattle.swap_map.specs.MapPages.{NumberedPage}
 use Rattle.plain_machine.specs.Machine.{Hardware}
 use Rattle.plain_machine.specs.Chain.{map_block}
-use Rattle.plain_machine.specs.Trace.{first_map, info_in, meta_in, place, place_count, read_cause, data_frames}
+use Rattle.plain_machine.specs.Trace.{first_map, info_in, meta_in, place, place_count, read_cause, data_frames, cause_with}
 use Rattle.plain_machine.specs.declared.event.IdentCheck.{IdentCheck}
 use Rattle.image_read.specs.Reading.{Reading}
-use Rattle.image_read.specs.Stream.{IsAreaOf, HasReadPlaces, HasCounts, AreListed, place_block, pages_read, known_pages, known_saved, numbers_read, frames_in, marked_in, unpacked_at, told, frame_after, step_cause}
+use Rattle.image_read.specs.Stream.{IsAreaOf, HasReadPlaces, HasCounts, AreListed, place_block, pages_read, known_pages, known_saved, numbers_read, frames_in, marked_in, unpacked_at, told, frame_after}
 use Rattle.image_read.proofs.Places.{at_map, read_at_map}
 
 pub record IsRead (h : Hardware) (v : disk.DiskImage) (check : IdentCheck) (r : Reading) (t k : ℕ) (origs zeros : List ℕ) : Type 0 where
   pub area : IsAreaOf h v r.extents r.last r.blocks r.format
   pub steps : r.steps ≡ t
-  pub sound : (s : ℕ) → s < t → step_cause h v check s ≡ None
+  pub sound : (s : ℕ) → s < t → cause_with h v check None s ≡ None
   pub cause : read_cause h v check (place t) ≡ None
   pub pages : r.pages ≡ known_pages h v k
   pub saved : r.saved ≡ known_saved h v k

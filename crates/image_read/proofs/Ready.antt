@@ -1,5 +1,5 @@
 -- A reader that took a block and went on is ready again.
-use Rattle.std.proofs.Common.{◌≡◌, ℕ, ◌+◌, ◌%◌, ◌<◌, ◌≤◌, List, ◌++◌, length, length-append, Option, Some, None, Ok, refl, sym, ◌∙◌, subst, inl, inr, arith}
+use Rattle.std.proofs.Common.{◌≡◌, ℕ, ◌+◌, ◌%◌, ◌<◌, ◌≤◌, List, ◌++◌, length, length-append, Option, Some, None, Ok, refl, sym, ap, ◌∙◌, subst, inl, inr, arith}
 use Rattle.std.proofs.lemmas.Bool.{cases_eq}
 use Rattle.definitions.specs.Zones.{numbers}
 use Rattle.definitions.specs.InfoPage.{info_of}
@@ -175,3 +175,8 @@ ready_after r old after origs zeros x h few (inl over) below =
 ready_after r old after origs zeros x h few (inr on) below =
     let here : named_block r (r.steps + 1) < r.blocks = subst (λ (a : Reading). a.block < a.blocks) on.2 below in
     subst (λ (a : Reading). IsReady a origs zeros) (sym on.2) (counted r origs zeros old (named_block r (r.steps + 1)) h few here)
+
+-- and a step is counted
+pub step_counted : (r old after : Reading) (x : Unit {0}) → r.steps ≡ old.steps → Advances r (Ok x) after → after.steps ≡ old.steps + 1
+step_counted r old after x same (inl over) = let steps = ap (λ (a : Reading). a.steps) over.1 in omega arith
+step_counted r old after x same (inr on) = let steps = ap (λ (a : Reading). a.steps) on.2 in omega arith

@@ -1,5 +1,5 @@
 -- The block that a step reads, and what it answers.
-use Rattle.std.proofs.Common.{◌≡◌, ◌≢◌, ℕ, ◌<◌, List, Option, Some, None, Result, Ok, Err, IfSome, OnOk, Bool, true, false, inl, inr, sym, ap, ◌∙◌, subst, arith}
+use Rattle.std.proofs.Common.{◌≡◌, ◌≢◌, ℕ, ◌<◌, ◌+◌, List, Option, Some, None, Result, Ok, Err, IfSome, OnOk, Bool, true, false, inl, inr, sym, ap, ◌∙◌, subst, arith}
 use Rattle.definitions.specs.Disk as disk
 use Rattle.plain_machine.specs.Machine.{Hardware, block_of_slot}
 use Rattle.plain_machine.specs.Chain.{blocks_of, header_of}
@@ -8,9 +8,9 @@ use Rattle.plain_machine.specs.Trace.{place, place_count}
 use Rattle.plain_machine.specs.declared.event.IdentCheck.{IdentCheck}
 use Rattle.std.proofs.lemmas.Bool.{cases_lt, both_ways}
 use Rattle.std.specs.Result.{is_err}
-use Rattle.image_read.specs.Reading.{Reading, IsReady, HasReadAll}
+use Rattle.image_read.specs.Reading.{Reading, IsReady, IsShort, HasReadAll, places_left}
 use Rattle.image_read.specs.Stream.{HasReadPlaces, place_block, pages_read, known_pages}
-use Rattle.image_read.specs.Answers.{Reads, Gives, Answers}
+use Rattle.image_read.specs.Answers.{Reads, Gives, Answers, GoesOn}
 use Rattle.image_read.specs.declared.reader.ReadStep.TheVariants.{More, Page}
 use Rattle.image_read.proofs.Blocks.{block_sound}
 
@@ -52,3 +52,13 @@ not_over r origs zeros over ready is told =
 -- the reader's own block
 pub at_block : (content : Option disk.Content) (into : List ℕ) (b c : ℕ) → b ≡ c → IfSome content (λ held. into ≡ disk.block (disk.as_it_reads held) b) → IfSome content (λ held. into ≡ disk.block (disk.as_it_reads held) c)
 at_block content into b c same read = subst (λ (x : ℕ). IfSome content (λ held. into ≡ disk.block (disk.as_it_reads held) x)) same read
+
+-- The reader goes on, with a place less to read.
+place_less : (old new : Reading) → old.steps < place_count old.pages → IsShort old.pages → new.steps ≡ old.steps + 1 → places_left new + 1 ≡ places_left old
+place_less old new more short counted = let few = short.few in omega arith
+
+pub goes_on_page : (pfn : ℕ) (old new : Reading) (origs zeros : List ℕ) → old.steps < place_count old.pages → IsShort old.pages → IsReady new origs zeros → new.steps ≡ old.steps + 1 → GoesOn (Page pfn) old new origs zeros
+goes_on_page pfn old new origs zeros more short ready counted = (ready, place_less old new more short counted)
+
+pub goes_on_more : (k : ℕ) (old new : Reading) (origs zeros : List ℕ) → old.steps < place_count old.pages → IsShort old.pages → IsReady new origs zeros → new.steps ≡ old.steps + 1 → GoesOn (More k) old new origs zeros
+goes_on_more k old new origs zeros more short ready counted = (ready, place_less old new more short counted)

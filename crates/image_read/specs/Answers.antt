@@ -4,12 +4,12 @@ use Rattle.definitions.specs.Disk as disk
 use Rattle.definitions.specs.declared.info.Ident.{Ident}
 use Rattle.plain_machine.specs.Machine.{Hardware, block_of_slot}
 use Rattle.plain_machine.specs.Chain.{blocks_of}
-use Rattle.plain_machine.specs.Trace.{place, read_cause}
+use Rattle.plain_machine.specs.Trace.{place, read_cause, cause_with}
 use Rattle.plain_machine.specs.declared.event.IdentCheck.{IdentCheck}
 use Rattle.plain_machine.specs.declared.event.IdentCheck.TheVariants.{Compare, Skip}
 use Rattle.image_read.specs.Causes.{reply_of}
-use Rattle.image_read.specs.Reading.{Reading, HasReadAll, IsReady}
-use Rattle.image_read.specs.Stream.{HasReadPlaces, AreListed, place_block, frame_at, told, pages_read, step_cause}
+use Rattle.image_read.specs.Reading.{Reading, HasReadAll, IsReady, places_left}
+use Rattle.image_read.specs.Stream.{HasReadPlaces, AreListed, place_block, frame_at, told, pages_read}
 use Rattle.image_read.specs.declared.cause.Cause.{Cause}
 use Rattle.image_read.specs.declared.reader.ReadStep.{ReadStep}
 use Rattle.image_read.specs.declared.reader.ReadStep.TheVariants.{More, Page, Done, Fault, Refused}
@@ -35,31 +35,32 @@ told_after h v check t =
 abbrev pub Gives : Hardware → disk.DiskImage → IdentCheck → ℕ → Result (Option ℕ) Cause → Reading → List ℕ → List ℕ →
     Type 0
 Gives h v check t (Err cause) new origs zeros =
-    (step_cause h v check t ≡ Some (reply_of cause)) × (new.listed ≡ told_after h v check t)
+    (cause_with h v check None t ≡ Some (reply_of cause)) × (new.listed ≡ told_after h v check t)
     × ((n : ℕ) → new.listed ≡ Some n → AreListed h v n origs zeros)
 Gives h v check t (Ok frame) new origs zeros =
-    (step_cause h v check t ≡ None) × HasReadPlaces h v check new (t + 1) origs zeros × (frame ≡ frame_at h v (place t))
+    (cause_with h v check None t ≡ None) × HasReadPlaces h v check new (t + 1) origs zeros
+    × (frame ≡ frame_at h v (place t))
 
 -- What the step that reads place t answers, and leaves: the first cause of that place or of the next block, and the
 -- sets where n is told with it, or else the page of a page frame, or how many steps were made.
 abbrev pub Answers : Hardware → disk.DiskImage → IdentCheck → ℕ → ReadStep → Reading → Reading → List ℕ → List ℕ →
     List ℕ → Type 0
 Answers h v check t (Refused cause) old new origs zeros page =
-    (step_cause h v check t ≡ Some (reply_of cause)) × (new.listed ≡ told_after h v check t)
+    (cause_with h v check None t ≡ Some (reply_of cause)) × (new.listed ≡ told_after h v check t)
     × ((n : ℕ) → new.listed ≡ Some n → AreListed h v n origs zeros)
 Answers h v check t (Page pfn) old new origs zeros page =
-    (step_cause h v check t ≡ None) × HasReadPlaces h v check new (t + 1) origs zeros
+    (cause_with h v check None t ≡ None) × HasReadPlaces h v check new (t + 1) origs zeros
     × (frame_at h v (place t) ≡ Some pfn) × (page ≡ disk.block v (place_block h v (place t)))
 Answers h v check t (More k) old new origs zeros page =
-    (step_cause h v check t ≡ None) × HasReadPlaces h v check new (t + 1) origs zeros
+    (cause_with h v check None t ≡ None) × HasReadPlaces h v check new (t + 1) origs zeros
     × (frame_at h v (place t) ≡ None) × (k ≡ t + 1)
 Answers h v check t Done old new origs zeros page = HasReadAll old × (new ≡ old)
 Answers h v check t Fault old new origs zeros page = Unit {0}
 
--- unless it was refused or the disk failed, the reader may go on
-abbrev pub GoesOn : ReadStep → Reading → List ℕ → List ℕ → Type 0
-GoesOn (Refused cause) r origs zeros = Unit {0}
-GoesOn Fault r origs zeros = Unit {0}
-GoesOn Done r origs zeros = IsReady r origs zeros
-GoesOn (More k) r origs zeros = IsReady r origs zeros
-GoesOn (Page pfn) r origs zeros = IsReady r origs zeros
+-- unless it was refused or the disk failed, the reader may go on, with a block less to read
+abbrev pub GoesOn : ReadStep → Reading → Reading → List ℕ → List ℕ → Type 0
+GoesOn (Refused cause) old r origs zeros = Unit {0}
+GoesOn Fault old r origs zeros = Unit {0}
+GoesOn Done old r origs zeros = IsReady r origs zeros
+GoesOn (More k) old r origs zeros = IsReady r origs zeros × (places_left r + 1 ≡ places_left old)
+GoesOn (Page pfn) old r origs zeros = IsReady r origs zeros × (places_left r + 1 ≡ places_left old)

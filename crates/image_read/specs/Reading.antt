@@ -1,5 +1,5 @@
 -- How far an image is read.
-use Rattle.std.specs.Prelude.{◌≡◌, ◌≤◌, ◌<◌, ℕ, List, length, Option, None}
+use Rattle.std.specs.Prelude.{◌≡◌, ◌≤◌, ◌<◌, ◌-◌, ℕ, List, length, Option, None}
 use Rattle.page_core.specs.declared.format.Format.{Format}
 use Rattle.definitions.specs.declared.info.Info.{Info}
 use Rattle.pfn_pack.specs.Unpacked.{Unpacked, IsUpTo}
@@ -27,6 +27,10 @@ pub record Reading : Type 0 where
 -- every block that is known of was read
 abbrev pub HasReadAll : Reading → Type 0
 HasReadAll r = r.steps ≡ place_count r.pages
+
+-- how many blocks are still to be read at most: the longest chain, of 65,536 saved pages, has 65,794
+abbrev pub places_left : Reading → ℕ
+places_left r = 65794 - r.steps
 
 -- What holds between two steps, of the reader and of the page frames that are listed so far: the next block is one of
 -- the disk, the page frames are the numbers that were read, and more numbers are wanted until all are accepted.

@@ -9,11 +9,11 @@ use Rattle.definitions.specs.Disk as disk
 use Rattle.definitions.specs.SwapHeader.{last_page_of}
 use Rattle.pfn_pack.specs.Unpacked.{Unpacked}
 use Rattle.plain_machine.specs.Machine.{Hardware}
-use Rattle.plain_machine.specs.Chain.{blocks_of, header_of, is_at_fault, map_block, entry_block, or_else}
+use Rattle.plain_machine.specs.Chain.{blocks_of, header_of, is_at_fault, map_block, entry_block}
 use Rattle.plain_machine.specs.Trace.{data_frames, first_map, info_in, format_in, meta_in, number_in, number_word}
-use Rattle.plain_machine.specs.Trace.{is_marked_by, Place, map_at, page_at, place, place_count, read_cause, next_cause}
+use Rattle.plain_machine.specs.Trace.{cause_with}
+use Rattle.plain_machine.specs.Trace.{is_marked_by, Place, map_at, page_at, place, place_count}
 use Rattle.plain_machine.specs.declared.event.IdentCheck.{IdentCheck}
-use Rattle.plain_machine.specs.declared.reply.Reply.{Reply}
 use Rattle.image_read.specs.Reading.{Reading}
 
 -- the block of a place
@@ -94,16 +94,12 @@ pub record AreListed (h : Hardware) (v : disk.DiskImage) (n : ℕ) (origs zeros 
   pub rising : IsStrictlyIncreasing origs
   pub whole : (info_in h v).pages ≡ length (data_frames h v) + meta_in h v + 1
 
--- what is wrong at the end of the step that reads place t, but for the loader's room, of which a reader knows nothing
-abbrev pub step_cause : Hardware → disk.DiskImage → IdentCheck → ℕ → Option Reply
-step_cause h v check t = or_else (read_cause h v check (place t)) (next_cause h v t)
-
 -- The first t places of the disk v were read, and nothing is wrong with them.
 pub record HasReadPlaces (h : Hardware) (v : disk.DiskImage) (check : IdentCheck) (r : Reading) (t : ℕ)
     (origs zeros : List ℕ) : Type 0 where
   pub area : IsAreaOf h v r.extents r.last r.blocks r.format
   pub steps : r.steps ≡ t
-  pub sound : (s : ℕ) → s < t → step_cause h v check s ≡ None
+  pub sound : (s : ℕ) → s < t → cause_with h v check None s ≡ None
   pub pages : r.pages ≡ known_pages h v (pages_read t)
   pub saved : r.saved ≡ known_saved h v (pages_read t)
   pub within : t ≤ place_count (known_pages h v (pages_read t))

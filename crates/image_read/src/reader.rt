@@ -186,7 +186,7 @@ impl Reader {
         ensures done { (result ≡ ReadStep.Done) ↔ HasReadAll self.old }
         ensures untouched { HasReadAll self.old → IsUntouched self.old self.new origs.old origs.new zeros.old zeros.new
             page.old page.new disk.old disk.new }
-        ensures goes_on { GoesOn result self.new origs.new.members zeros.new.members }
+        ensures goes_on { GoesOn result self.old self.new origs.new.members zeros.new.members }
         ensures stays { StaysOver self.old self.new origs.old origs.new zeros.old zeros.new }
         ensures read { (HasReadAll self.old → ⊥) → D.calls disk.new ≡ raised (D.calls disk.old) }
         ensures called { Called D.Disk AtMostOneCall (result ≡ ReadStep.Fault) disk.old disk.new }
@@ -230,6 +230,7 @@ impl Reader {
             expected.now.zones.now ≡ h.zones → Compares h check (option_copied expected.now.ident) →
             Gives h v check t result self.new origs.new.members zeros.new.members }
         ensures ready { IfOk result (λ frame. IsReady self.new origs.new.members zeros.new.members) }
+        ensures counted { IfOk result (λ frame. self.new.steps ≡ self.old.steps + 1) }
         ensures stays { StaysOver self.old self.new origs.old origs.new zeros.old zeros.new }
     {
         let pfn = self.accept(page, expected, origs, zeros)?;

@@ -18,5 +18,5 @@ foretold_by h m h' m' hw memory check c frames ended original foretells =
     subst (λ (x : Memory). Foretells h' x check v frames ended) memory
     (subst (λ (g : Hardware). Foretells g m check v frames ended) hw (foretells (subst (λ (g : Hardware). Marked g v → HasOriginal g v) (sym hw) original)))
 
-pub few_more : (calls : ℕ) → calls ≤ calls + 66000
+pub few_more : (calls : ℕ) → calls ≤ calls + 65800
 few_more calls = omega arith

@@ -24,11 +24,11 @@ foretold_told ended =
     if is_resumed ended.reply then record { status = Done; out = line_of ended.reply; note = [] }
     else stopped_told ended
 
--- the disk was only read
+-- the disk was only read: by a resume of 65,800 steps at most
 pub record IsOnlyRead (x x' : DiskView) : Type 0 where
   pub content : x'.content ≡ x.content
   pub orders : x'.orders ≡ x.orders
-  pub calls : x'.calls ≤ x.calls + 66000
+  pub calls : x'.calls ≤ x.calls + 65800
 
 -- What is told is the last reply of a resume's trace over the disk as it reads, unless a call of the disk has failed.
 pub record IsForetold (check : IdentCheck) (x x' : View) (status : Status) (dump : DumpValue) (memory : Memory)

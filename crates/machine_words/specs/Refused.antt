@@ -1,5 +1,5 @@
 -- What an answer says that is no command.
-use Rattle.std.specs.Prelude.{◌≡◌, List, ℕ, None, true, codes, string_bytes, ⊤}
+use Rattle.std.specs.Prelude.{◌≡◌, ◌++◌, List, ℕ, None, true, codes, string_bytes, ⊤}
 use Rattle.clap.specs.Words.{takes}
 use Rattle.machine_words.specs.App.{machine_app}
 use Rattle.machine_words.specs.Words.{command_of}
@@ -15,7 +15,8 @@ IsRefusedBy words unparsed.NoMemory = ⊤
 -- the line that is told of a list that clap takes and that isn't plain
 abbrev pub not_plain : List ℕ
 not_plain =
-    codes "words: a path isn't empty nor begins with -, a number has no zero before it, and nothing but --any-kernel stands between a command and its paths\n"
+    codes "words: a path isn't empty nor begins with -, a number has no zero before it, "
+    ++ codes "and nothing but --any-kernel stands between a command and its paths\n"
 
 abbrev pub SaysWords : List (List ℕ) → Unparsed → Type 0
 SaysWords words (unparsed.Help text) = takes machine_app words ≡ true → ⊥

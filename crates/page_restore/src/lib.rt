@@ -5,7 +5,7 @@
 mod sets;
 
 ghost use Rattle.std.specs.Prelude.{◌≡◌, ◌≢◌, ℕ, ◌+◌, ◌<◌, ◌≤◌, ◌↔◌, ◌++◌, ◌∷◌, [], true, false, Contains, IsErr};
-ghost use Rattle.std.specs.Prelude.{IsNone, IfOk, IfErr, IfSome, OnOk, OnErr, length};
+ghost use Rattle.std.specs.Prelude.{IsNone, IfOk, IfErr, IfSome, OnOk, is_ok, length};
 ghost use Rattle.definitions.specs.Moves.{assigned};
 ghost use Rattle.definitions.specs.Tables.{frame};
 ghost use Rattle.definitions.specs.Zones.{top};
@@ -95,12 +95,11 @@ impl Waiting {
         }) }
         ensures planned { OnOk result (self.new.placement ≡ planned self.old.zones
             (with_data origs.now.members zeros.now.members) self.old.free) }
-        ensures ready { OnOk result (self.new.placement.ready ≡ true) }
+        ensures ready { self.new.placement.ready ≡ is_ok result }
         ensures placement { OnOk result (IsPlacement self.new.placement) }
         ensures taken { OnOk result (TakesFrom self.old.free self.new.placement) }
         ensures targets { OnOk result (targets self.new.placement.moves ≡ with_data origs.now.members
             zeros.now.members) }
-        ensures unready { OnErr result (self.new.placement.ready ≡ false) }
         ensures originals { self.new.originals ≡ with_data origs.now.members zeros.now.members }
         ensures free { self.new.free ≡ self.old.free }
         ensures zones { self.new.zones ≡ self.old.zones }

@@ -77,8 +77,7 @@ impl Unpack {
         zeros: &mut Bitmap,
     ) -> Result<(), PfnFault>
         requires wanted { self.old.read < self.old.n }
-        requires zones { origs.old.zones ≡ zones.now }
-        requires same_zones { zeros.old.zones ≡ zones.now }
+        requires zones { (origs.old.zones ≡ zones.now) × (zeros.old.zones ≡ zones.now) }
         requires listed { IsUpTo self.old.last origs.old.members }
         requires marked { IsUpTo self.old.last zeros.old.members }
 

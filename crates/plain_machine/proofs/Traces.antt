@@ -3,7 +3,7 @@ use Rattle.std.proofs.Common.{◌≡◌, ◌≢◌, ℕ, ◌+◌, ◌<◌, ◌�
 use Rattle.std.proofs.lemmas.List.FromFn.{length-map-range_with_len, get_or-map-range_with_len}
 use Rattle.definitions.specs.Disk as disk
 use Rattle.plain_machine.specs.Machine.{Hardware, Memory}
-use Rattle.plain_machine.specs.Trace.{trace, causes, replies_to, cause_at, last_reply, place_count, info_in}
+use Rattle.plain_machine.specs.Trace.{trace, causes, replies_to, step_cause, step_count, last_reply, place_count, info_in}
 use Rattle.plain_machine.specs.declared.event.Loader.{Loader}
 use Rattle.plain_machine.specs.declared.event.IdentCheck.{IdentCheck}
 use Rattle.plain_machine.specs.declared.reply.Reply.{Reply}
@@ -57,11 +57,11 @@ replies_end last k (None ∷ next ∷ rest) (suc i) there = let short = replies_
 
 -- The causes.
 
-pub causes_count : (h : Hardware) (dump : Memory) (v : disk.DiskImage) (loader : Loader) (check : IdentCheck) → length (causes h dump v loader check) ≡ 4 + place_count (info_in h v).pages
-causes_count h dump v loader check = let count = length-map-range_with_len (cause_at h dump v loader check) 0 (place_count (info_in h v).pages) in omega arith
+pub causes_count : (h : Hardware) (dump : Memory) (v : disk.DiskImage) (loader : Loader) (check : IdentCheck) → length (causes h dump v loader check) ≡ step_count h v
+causes_count h dump v loader check = length-map-range_with_len (step_cause h dump v loader check) 0 (step_count h v)
 
-pub causes_at : (h : Hardware) (dump : Memory) (v : disk.DiskImage) (loader : Loader) (check : IdentCheck) (t : ℕ) → t < place_count (info_in h v).pages → get_or (causes h dump v loader check) (suc (suc (suc (suc t)))) None ≡ cause_at h dump v loader check t
-causes_at h dump v loader check t lt = get_or-map-range_with_len (cause_at h dump v loader check) 0 (place_count (info_in h v).pages) t t None lt (let e : 0 + t ≡ t = omega arith in e)
+pub causes_at : (h : Hardware) (dump : Memory) (v : disk.DiskImage) (loader : Loader) (check : IdentCheck) (k : ℕ) → k < step_count h v → get_or (causes h dump v loader check) k None ≡ step_cause h dump v loader check k
+causes_at h dump v loader check k lt = get_or-map-range_with_len (step_cause h dump v loader check) 0 (step_count h v) k k None lt (let e : 0 + k ≡ k = omega arith in e)
 
 -- The trace.
 

@@ -197,16 +197,17 @@ abbrev pub want_cause : Hardware → Memory → disk.DiskImage → Loader → Pl
 want_cause h dump v loader (map_at j) = None
 want_cause h dump v loader (page_at k) = if k == meta_in h v then room_cause h dump v loader else None
 
-abbrev pub content_cause : Hardware → Memory → disk.DiskImage → Loader → IdentCheck → Place → Option Reply
-content_cause h dump v loader check here = or_else (read_cause h v check here) (want_cause h dump v loader here)
-
 -- what is wrong with the block that is wanted after place t, which is tested at the end of the step that reads place t
 abbrev pub next_cause : Hardware → disk.DiskImage → ℕ → Option Reply
 next_cause h v t = if nat_lt (t + 1) (place_count (info_in h v).pages) then place_cause h v (place (t + 1)) else None
 
--- what is wrong at the end of the step that reads place t
+-- What is wrong at the end of the step that reads place t: with what was read there, else with the loader's room, of
+-- which a reader alone knows of nothing that is wrong, else with the block that is wanted next.
+abbrev pub cause_with : Hardware → disk.DiskImage → IdentCheck → Option Reply → ℕ → Option Reply
+cause_with h v check room t = or_else (read_cause h v check (place t)) (or_else room (next_cause h v t))
+
 abbrev pub cause_at : Hardware → Memory → disk.DiskImage → Loader → IdentCheck → ℕ → Option Reply
-cause_at h dump v loader check t = or_else (content_cause h dump v loader check (place t)) (next_cause h v t)
+cause_at h dump v loader check t = cause_with h v check (want_cause h dump v loader (place t)) t
 
 -- The slots of the tasks in the restored memory, with their pages as the disk reads.
 abbrev pub slots_in : Hardware → disk.DiskImage → Memory → SlotPages
@@ -245,12 +246,22 @@ header_cause h v =
     else (if not (is_set (flags_of (header_of h v)) 2) then Some (reply.Compressed (flags_of (header_of h v)))
     else None)
 
--- what is wrong at the end of each step, in order: the first syncs, the third writes the block taken back, and the
--- fifth and later ones read a place each
+-- what is wrong at the end of step k + 1: the first syncs, the third writes the block taken back, and the fifth and
+-- later ones read a place each
+abbrev pub step_cause : Hardware → Memory → disk.DiskImage → Loader → IdentCheck → ℕ → Option Reply
+step_cause h dump v loader check zero = None
+step_cause h dump v loader check (suc zero) = header_cause h v
+step_cause h dump v loader check (suc (suc zero)) = None
+step_cause h dump v loader check (suc (suc (suc zero))) = taken_back_cause h v
+step_cause h dump v loader check (suc (suc (suc (suc t)))) = cause_at h dump v loader check t
+
+-- how many steps there are where nothing is wrong
+abbrev pub step_count : Hardware → disk.DiskImage → ℕ
+step_count h v = 4 + place_count (info_in h v).pages
+
+-- what is wrong at the end of each step, in order
 abbrev pub causes : Hardware → Memory → disk.DiskImage → Loader → IdentCheck → List (Option Reply)
-causes h dump v loader check =
-    None ∷ header_cause h v ∷ None ∷ taken_back_cause h v
-    ∷ map (cause_at h dump v loader check) (range_with_len 0 (place_count (info_in h v).pages))
+causes h dump v loader check = map (step_cause h dump v loader check) (range_with_len 0 (step_count h v))
 
 -- the replies of step k and of those after it, by their causes: Loading up to the first cause, or else up to the last
 -- reply

@@ -7,11 +7,11 @@ use Rattle.definitions.specs.Disk as disk
 use Rattle.definitions.specs.NumberPages.{meta_of}
 use Rattle.definitions.specs.SwapHeader.{flags_of, sig_of, image_signature}
 use Rattle.plain_machine.specs.Machine.{Hardware, Memory}
-use Rattle.plain_machine.specs.Chain.{header_of, Marked, or_else}
+use Rattle.plain_machine.specs.Chain.{header_of, Marked}
 use Rattle.plain_machine.specs.Image.{Image, n_of, d_of, resume_steps}
 use Rattle.plain_machine.specs.State.{Load}
 use Rattle.plain_machine.specs.Step.{has_room}
-use Rattle.plain_machine.specs.Trace.{trace, is_set, info_in, place, place_count, header_cause, content_cause, next_cause, tables_cause, restored_in, last_reply}
+use Rattle.plain_machine.specs.Trace.{trace, is_set, info_in, place_count, header_cause, cause_at, step_count, tables_cause, restored_in, last_reply}
 use Rattle.plain_machine.specs.declared.event.Loader.{Loader}
 use Rattle.plain_machine.specs.declared.event.Loader.TheVariants.{Ranges, Table}
 use Rattle.plain_machine.specs.declared.event.Ranges.{Ranges as RangeList}
@@ -22,8 +22,8 @@ use Rattle.protocol_laws.specs.LoadRows.{HaveGoneOn, IsStop, GoneOnEarly, GoneOn
 use Rattle.protocol_laws.specs.OwnTrace.{own_reply, Comes}
 use Rattle.protocol_laws.specs.TraceAt.{reply_past, reply_at}
 use Rattle.protocol_laws.proofs.OwnCauses.{IsOwnDisk}
-use Rattle.protocol_laws.proofs.Stopping.{Stops, is_no_stop, stops_else, stops_content, stops_next, stops_tables, none_passed, header_passed}
-use Rattle.protocol_laws.proofs.TraceAt.{traces_at}
+use Rattle.protocol_laws.proofs.Stopping.{Stops, is_no_stop, stops_cause, stops_tables, none_passed}
+use Rattle.protocol_laws.proofs.TraceAt.{past_more, first_reply, passed, traces_at}
 use Rattle.protocol_laws.proofs.Tracing.{count_is, own_few, few_reply, traces_own}
 
 -- Which reply is which.
@@ -43,8 +43,9 @@ differ r s e apart = absurd (apart (ap kind e))
 
 pub gone_early : GoneOnEarly
 gone_early h load v k few header zero some lt = absurd (omega arith)
-gone_early h load v k few header (suc zero) some lt = ap (λ (o : Option Reply). unwrap_or o (reply.Loading 2)) header
-gone_early h load v k few header (suc (suc zero)) some lt = refl
+gone_early h load v k few header (suc zero) some lt =
+    ap (λ (o : Option Reply). unwrap_or o (reply_past h load.dump v load.loader 1)) header ∙ past_more h load.dump v load.loader 1 (omega arith)
+gone_early h load v k few header (suc (suc zero)) some lt = past_more h load.dump v load.loader 2 (omega arith)
 gone_early h load v k few header (suc (suc (suc j))) some lt = absurd (omega arith)
 
 pub gone_next : GoneOnNext
@@ -54,11 +55,11 @@ gone_next h load v k gone here j some lt = elim (cases_lt j k) [
 ]
 
 gone_from_first : (h : Hardware) (load : Load) (v : disk.DiskImage) (k : ℕ) → HaveGoneOn h load v k → (j : ℕ) → j < k → reply_at h load.dump v load.loader load.check j ≡ reply.Loading (j + 1)
-gone_from_first h load v k gone zero lt = refl
+gone_from_first h load v k gone zero lt = first_reply h load.dump v load.loader load.check
 gone_from_first h load v k gone (suc j) lt = gone (suc j) (omega arith) lt
 
 pub no_header : (h : Hardware) (load : Load) (v : disk.DiskImage) (k : ℕ) → 2 ≤ k → HaveGoneOn h load v k → header_cause h v ≡ None
-no_header h load v k some gone = header_passed h v (gone 1 (omega arith) (omega arith))
+no_header h load v k some gone = passed h load.dump v load.loader load.check 1 (gone 1 (omega arith) (omega arith))
 
 pub traced_at : (h : Hardware) (load : Load) (v : disk.DiskImage) (k : ℕ) (r : Reply) → k < 4 + place_count (info_in h v).pages → HaveGoneOn h load v k → reply_at h load.dump v load.loader load.check k ≡ r →
     slice_get (trace h load.dump v load.loader load.check) k ≡ Some r
@@ -144,15 +145,9 @@ last_stop h dump v (Ranges ranges) r e stop =
     (λ is s. absurd (subst IsStop (sym is) s)) e stop
 last_stop h dump v Table r e stop = absurd (subst IsStop (sym e) stop)
 
-past_stop : (h : Hardware) (dump : Memory) (v : disk.DiskImage) (loader : Loader) (t : ℕ) (b : Bool) (r : Reply) → cond b (reply.Loading (5 + t)) (last_reply h dump v loader) ≡ r → IsStop r → is_no_stop r ≡ false
-past_stop h dump v loader t true r e stop = absurd (subst IsStop (sym e) stop)
-past_stop h dump v loader t false r e stop = last_stop h dump v loader r e stop
-
-abbrev cause_of : Hardware → Memory → disk.DiskImage → Loader → IdentCheck → ℕ → Option Reply
-cause_of h dump v loader check t = or_else (content_cause h dump v loader check (place t)) (next_cause h v t)
-
-pub stops_cause : (h : Hardware) (dump : Memory) (v : disk.DiskImage) (loader : Loader) (check : IdentCheck) (t : ℕ) → Stops (or_else (content_cause h dump v loader check (place t)) (next_cause h v t))
-stops_cause h dump v loader check t = stops_else (content_cause h dump v loader check (place t)) (next_cause h v t) (stops_content h dump v loader check (place t)) (stops_next h v t)
+past_stop : (h : Hardware) (dump : Memory) (v : disk.DiskImage) (loader : Loader) (k : ℕ) (b : Bool) (r : Reply) → cond b (reply.Loading (k + 1)) (last_reply h dump v loader) ≡ r → IsStop r → is_no_stop r ≡ false
+past_stop h dump v loader k true r e stop = absurd (subst IsStop (sym e) stop)
+past_stop h dump v loader k false r e stop = last_stop h dump v loader r e stop
 
 pub stop_late : (h : Hardware) (dump : Memory) (v : disk.DiskImage) (loader : Loader) (check : IdentCheck) (k : ℕ) (r : Reply) → 4 ≤ k → reply_at h dump v loader check k ≡ r → IsStop r → is_no_stop r ≡ false
 stop_late h dump v loader check zero r late e stop = absurd (omega arith)
@@ -160,8 +155,9 @@ stop_late h dump v loader check (suc zero) r late e stop = absurd (omega arith)
 stop_late h dump v loader check (suc (suc zero)) r late e stop = absurd (omega arith)
 stop_late h dump v loader check (suc (suc (suc zero))) r late e stop = absurd (omega arith)
 stop_late h dump v loader check (suc (suc (suc (suc t)))) r late e stop =
-    stop_by_cause (cause_of h dump v loader check t) (reply_past h dump v loader t) r (stops_cause h dump v loader check t)
-    (past_stop h dump v loader t (ltb (t + 1) (place_count (info_in h v).pages)) r) e stop
+    let k = suc (suc (suc (suc t))) in
+    stop_by_cause (cause_at h dump v loader check t) (reply_past h dump v loader k) r (stops_cause h dump v loader check t)
+    (past_stop h dump v loader k (ltb (k + 1) (step_count h v)) r) e stop
 
 -- A resume that ends well: the restored tables fit.
 
@@ -169,9 +165,9 @@ last_resumed : (h : Hardware) (dump : Memory) (v : disk.DiskImage) (ranges : Ran
 last_resumed h dump v ranges n e =
     none_passed (tables_cause h v (restored_in h dump v (Ranges ranges))) (reply.Resumed (info_in h v).image_pages) (reply.Resumed n) (stops_tables h v (restored_in h dump v (Ranges ranges))) refl e
 
-past_resumed : (h : Hardware) (dump : Memory) (v : disk.DiskImage) (ranges : RangeList) (t n : ℕ) (b : Bool) → cond b (reply.Loading (5 + t)) (last_reply h dump v (Ranges ranges)) ≡ reply.Resumed n → tables_cause h v (restored_in h dump v (Ranges ranges)) ≡ None
-past_resumed h dump v ranges t n true e = differ (reply.Loading (5 + t)) (reply.Resumed n) e (λ x. absurd (omega arith))
-past_resumed h dump v ranges t n false e = last_resumed h dump v ranges n e
+past_resumed : (h : Hardware) (dump : Memory) (v : disk.DiskImage) (ranges : RangeList) (k n : ℕ) (b : Bool) → cond b (reply.Loading (k + 1)) (last_reply h dump v (Ranges ranges)) ≡ reply.Resumed n → tables_cause h v (restored_in h dump v (Ranges ranges)) ≡ None
+past_resumed h dump v ranges k n true e = differ (reply.Loading (k + 1)) (reply.Resumed n) e (λ x. absurd (omega arith))
+past_resumed h dump v ranges k n false e = last_resumed h dump v ranges n e
 
 pub tables_fit : (h : Hardware) (dump : Memory) (v : disk.DiskImage) (ranges : RangeList) (check : IdentCheck) (k n : ℕ) → 4 ≤ k → reply_at h dump v (Ranges ranges) check k ≡ reply.Resumed n → tables_cause h v (restored_in h dump v (Ranges ranges)) ≡ None
 tables_fit h dump v ranges check zero n late e = absurd (omega arith)
@@ -179,7 +175,8 @@ tables_fit h dump v ranges check (suc zero) n late e = absurd (omega arith)
 tables_fit h dump v ranges check (suc (suc zero)) n late e = absurd (omega arith)
 tables_fit h dump v ranges check (suc (suc (suc zero))) n late e = absurd (omega arith)
 tables_fit h dump v ranges check (suc (suc (suc (suc t)))) n late e =
-    let cause = cause_of h dump v (Ranges ranges) check t in
-    let past = reply_past h dump v (Ranges ranges) t in
+    let k = suc (suc (suc (suc t))) in
+    let cause = cause_at h dump v (Ranges ranges) check t in
+    let past = reply_past h dump v (Ranges ranges) k in
     let none = none_passed cause past (reply.Resumed n) (stops_cause h dump v (Ranges ranges) check t) refl e in
-    past_resumed h dump v ranges t n (ltb (t + 1) (place_count (info_in h v).pages)) (ap (λ (o : Option Reply). unwrap_or o past) (sym none) ∙ e)
+    past_resumed h dump v ranges k n (ltb (k + 1) (step_count h v)) (ap (λ (o : Option Reply). unwrap_or o past) (sym none) ∙ e)

@@ -34,12 +34,12 @@ use Rattle.protocol_laws.specs.Resuming.{IsHeldOwn, with_found}
 use Rattle.protocol_laws.specs.ResumingOther.{IsHeldOther, with_found_other}
 use Rattle.protocol_laws.specs.OwnTrace.{own_reply}
 use Rattle.protocol_laws.specs.Rows.{IsSameArea, KeepsHeaderOrTakesBack}
-use Rattle.protocol_laws.specs.TraceAt.{reply_at}
+use Rattle.protocol_laws.specs.TraceAt.{reply_past, reply_at}
 use Rattle.protocol_laws.proofs.AreaKept.{kept_by_sync, kept_by_taking_back}
 use Rattle.protocol_laws.proofs.Finding.{load_syncs, finds_none, finds_own}
 use Rattle.protocol_laws.proofs.HeaderBack.{is_before}
 use Rattle.protocol_laws.proofs.HeaderLeft.{header_same, header_synced, header_written}
-use Rattle.protocol_laws.proofs.LoadReplies.{differ, no_header, traced_at, own_within, own_answers, no_mark, a_mark, stop_late, cause_stops, stop_kind, stops_cause, tables_fit}
+use Rattle.protocol_laws.proofs.LoadReplies.{differ, no_header, traced_at, own_within, own_answers, no_mark, a_mark, stop_late, cause_stops, stop_kind, tables_fit}
 use Rattle.protocol_laws.proofs.LoadSteps.{IsThere, there_own, there_other, by_core, fault_step, late_fault, own_goes, own_outcome, other_goes, stopped_off, find_goes, finds_traced}
 use Rattle.protocol_laws.proofs.Other.{finds_other, stops_at_other, takes_other_back, take_other_back_fails}
 use Rattle.protocol_laws.proofs.OtherResumed.{resumes_other}
@@ -47,8 +47,9 @@ use Rattle.protocol_laws.proofs.OwnCauses.{IsOwnDisk, own_sayable}
 use Rattle.protocol_laws.proofs.OwnChain.{no_header_cause, no_taken_back_cause}
 use Rattle.protocol_laws.proofs.Resumed.{load_stops, load_fails, resumes}
 use Rattle.protocol_laws.proofs.Same.{same_area, header_kept, by_sync}
-use Rattle.protocol_laws.proofs.Stopping.{stops_tables, stops_taken_back}
+use Rattle.protocol_laws.proofs.Stopping.{stops_cause, stops_tables, stops_taken_back}
 use Rattle.protocol_laws.proofs.TakingBack.{takes_back, take_back_fails, unmarked_synced, page_read}
+use Rattle.protocol_laws.proofs.TraceAt.{past_more}
 use Rattle.protocol_laws.proofs.Tracing.{restored_is, few_reply}
 
 abbrev running_of : Memory → SlotPages → Running
@@ -248,7 +249,7 @@ back_stands h shown shown' c c' blocks load v (found_other u) hw whole after sta
 
 pub take_back_row : TakeBackRow
 take_back_row h shown shown' c c' blocks load v hw whole after stands is gone writes shows = record {
-  step = loading_step h (disk.as_it_reads c) v load load.found 2 hw is gone (omega arith) (omega arith) refl;
+  step = loading_step h (disk.as_it_reads c) v load load.found 2 hw is gone (omega arith) (omega arith) (past_more h load.dump v load.loader 2 (omega arith));
   stands = back_stands h shown shown' c c' blocks load v load.found hw whole after stands is writes shows;
   area = back_area h shown c c' blocks load v whole stands is (inl writes);
   unwritten = λ b not. unwritten_header h [] b c c' writes.others not;
@@ -276,7 +277,8 @@ take_back_fault_row h shown shown' c c' blocks load v hw whole after stands is f
 
 pub back_sync_row : BackSyncRow
 back_sync_row h shown shown' c c' blocks load v hw whole stands is gone syncs none shows = record {
-  step = loading_step h (disk.as_it_reads c) v load load.found 3 hw is gone (omega arith) (omega arith) (ap (λ (o : Option Reply). unwrap_or o (reply.Loading 4)) none);
+  step = loading_step h (disk.as_it_reads c) v load load.found 3 hw is gone (omega arith) (omega arith)
+      (ap (λ (o : Option Reply). unwrap_or o (reply_past h load.dump v load.loader 3)) none ∙ past_more h load.dump v load.loader 3 (omega arith));
   stands = unmarked_synced h shown shown' c c' blocks load whole stands syncs shows;
   area = kept_by_sync h c c' syncs;
   unwritten = λ b not. block_synced blocks b c c' whole syncs;
@@ -290,7 +292,7 @@ back_stop_step h w v load not_yet r is gone says = absurd is
 back_stop_step h w v load (found_own i) r is gone says = absurd (none-some r (sym (no_taken_back_cause h v i is.0 is.1) ∙ says))
 back_stop_step h w v load (found_other u) r is gone says =
     subst (λ (x : disk.DiskImage). Step h w (loading (with_found_other load x) 3) (event.Step actor.Core) r (off nothing None)) is
-    (other_goes h w v load 3 r (off nothing None) (omega arith) (traced_at h load v 3 r (omega arith) gone (ap (λ (o : Option Reply). unwrap_or o (reply.Loading 4)) says))
+    (other_goes h w v load 3 r (off nothing None) (omega arith) (traced_at h load v 3 r (omega arith) gone (ap (λ (o : Option Reply). unwrap_or o (reply_past h load.dump v load.loader 3)) says))
     (stopped_off h (with_found_other load v) v 3 r (cause_stops (taken_back_cause h v) r (stops_taken_back h v) says)))
 
 pub back_sync_stop_row : BackSyncStopRow

@@ -21,7 +21,7 @@ use Rattle.protocol_laws.specs.Resuming.{with_found}
 use Rattle.protocol_laws.specs.ResumingOther.{with_found_other}
 use Rattle.protocol_laws.specs.TraceAt.{reply_at}
 use Rattle.protocol_laws.proofs.Stopping.{is_no_stop}
-use Rattle.protocol_laws.proofs.TraceAt.{traces_at}
+use Rattle.protocol_laws.proofs.TraceAt.{past_more, first_reply, traces_at}
 
 -- There is a step k + 1.
 abbrev pub IsThere : Hardware → Load → Found → ℕ → Type 0
@@ -115,7 +115,7 @@ find_goes h v load held r b is in' =
 
 -- another's image: what the trace says of the header
 pub finds_traced : (h : Hardware) (v : disk.DiskImage) (load : Load) (r : Reply) (b : State) → unwrap_or (header_cause h v) (reply.Loading 2) ≡ r → other_state h (with_found_other load v) v 1 r ≡ b → Contains (other_step h (with_found_other load v) v 1) (r, b)
-finds_traced h v load r b says state = traced h (with_found_other load v) v 1 r b (traces_at h load.dump v load.loader load.check 1 (omega arith) (λ j lt. at_first j lt) ∙ ap Some says) state where
+finds_traced h v load r b says state = traced h (with_found_other load v) v 1 r b (traces_at h load.dump v load.loader load.check 1 (omega arith) (λ j lt. at_first j lt) ∙ ap Some (ap (unwrap_or (header_cause h v)) (past_more h load.dump v load.loader 1 (omega arith)) ∙ says)) state where
   at_first : (j : ℕ) → j < 1 → reply_at h load.dump v load.loader load.check j ≡ reply.Loading (j + 1)
-  at_first zero lt = refl
+  at_first zero lt = first_reply h load.dump v load.loader load.check
   at_first (suc j) lt = absurd (omega arith)

@@ -12,7 +12,7 @@ use Rattle.plain_machine.specs.Machine.{Hardware, Memory, is_valid, valid_count,
 use Rattle.plain_machine.specs.Chain.{header_of, or_else, first_some, is_at_fault, map_block, entry_block, block_fault}
 use Rattle.plain_machine.specs.Chain.{map_fault}
 use Rattle.plain_machine.specs.Loader.{left_free, need}
-use Rattle.plain_machine.specs.Trace.{Place, map_at, page_at, place, place_count, is_set, first_map, info_in, format_in, meta_in, d_in, number_in, number_word, are_bad_counts, identity_cause, memory_cause, counts_cause, info_cause, number_cause, end_cause, listed_cause, numbers_cause, room_cause, place_cause, read_cause, want_cause, content_cause, next_cause, header_cause, taken_back_cause, tables_cause}
+use Rattle.plain_machine.specs.Trace.{Place, map_at, page_at, place, place_count, is_set, first_map, info_in, format_in, meta_in, d_in, number_in, number_word, are_bad_counts, identity_cause, memory_cause, counts_cause, info_cause, number_cause, end_cause, listed_cause, numbers_cause, room_cause, place_cause, read_cause, want_cause, next_cause, cause_at, header_cause, taken_back_cause, tables_cause}
 use Rattle.plain_machine.specs.UsableArea.{dump_area_fault}
 use Rattle.plain_machine.specs.declared.event.Loader.{Loader}
 use Rattle.plain_machine.specs.declared.event.IdentCheck.{IdentCheck}
@@ -61,11 +61,11 @@ stops_map h v b zero = stops_cond (eqb b 0) (Some reply.NoChain) (block_fault h 
 stops_map h v b (suc j) =
     stops_cond (eqb (map_block v b (suc j)) 0) (Some (reply.ChainEnds (suc j))) (block_fault h v (map_block v b (suc j))) refl (stops_block h v (map_block v b (suc j)))
 
-pub stops_place : (h : Hardware) (v : disk.DiskImage) (here : Place) → Stops (place_cause h v here)
+stops_place : (h : Hardware) (v : disk.DiskImage) (here : Place) → Stops (place_cause h v here)
 stops_place h v (map_at j) = stops_map h v (first_map h v) j
 stops_place h v (page_at k) = stops_block h v (entry_block v (first_map h v) k)
 
-pub stops_next : (h : Hardware) (v : disk.DiskImage) (t : ℕ) → Stops (next_cause h v t)
+stops_next : (h : Hardware) (v : disk.DiskImage) (t : ℕ) → Stops (next_cause h v t)
 stops_next h v t = stops_cond (ltb (t + 1) (place_count (info_in h v).pages)) (place_cause h v (place (t + 1))) None (stops_place h v (place (t + 1))) refl
 
 -- The first page.
@@ -135,8 +135,10 @@ stops_want : (h : Hardware) (dump : Memory) (v : disk.DiskImage) (loader : Loade
 stops_want h dump v loader (map_at j) = refl
 stops_want h dump v loader (page_at k) = stops_cond (eqb k (meta_in h v)) (room_cause h dump v loader) None (stops_room h dump v loader) refl
 
-pub stops_content : (h : Hardware) (dump : Memory) (v : disk.DiskImage) (loader : Loader) (check : IdentCheck) (here : Place) → Stops (content_cause h dump v loader check here)
-stops_content h dump v loader check here = stops_else (read_cause h v check here) (want_cause h dump v loader here) (stops_read h v check here) (stops_want h dump v loader here)
+pub stops_cause : (h : Hardware) (dump : Memory) (v : disk.DiskImage) (loader : Loader) (check : IdentCheck) (t : ℕ) → Stops (cause_at h dump v loader check t)
+stops_cause h dump v loader check t =
+    let want = want_cause h dump v loader (place t) in
+    stops_else (read_cause h v check (place t)) (or_else want (next_cause h v t)) (stops_read h v check (place t)) (stops_else want (next_cause h v t) (stops_want h dump v loader (place t)) (stops_next h v t))
 
 -- The restored tables.
 

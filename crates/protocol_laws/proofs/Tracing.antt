@@ -13,7 +13,7 @@ use Rattle.plain_machine.specs.Image.{Image, n_of, d_of, pages_of, maps_read, re
 use Rattle.plain_machine.specs.Loader.{left_free, need, restored, restored_page}
 use Rattle.plain_machine.specs.State.{Load, loading}
 use Rattle.plain_machine.specs.Step.{Outcome, has_room, too_few, resumed}
-use Rattle.plain_machine.specs.Trace.{info_in, meta_in, d_in, image_in, map_at, page_at, place, place_count, place_cause, want_cause, room_cause, content_cause, tables_cause, restored_in, next_cause, cause_at, last_reply}
+use Rattle.plain_machine.specs.Trace.{info_in, meta_in, d_in, image_in, map_at, page_at, place, place_count, place_cause, read_cause, want_cause, room_cause, tables_cause, restored_in, next_cause, cause_at, step_count, last_reply}
 use Rattle.plain_machine.specs.UsableArea.{dump_area_fault}
 use Rattle.plain_machine.specs.declared.no_swap.NoSwap.{NoSwap}
 use Rattle.plain_machine.specs.declared.event.Loader.{Loader}
@@ -27,7 +27,7 @@ use Rattle.protocol_laws.proofs.OwnCauses.{IsOwnDisk, info_is, some_saved, few_s
 use Rattle.protocol_laws.proofs.OwnChain.{no_header_cause, no_taken_back_cause, no_place_cause}
 use Rattle.protocol_laws.proofs.OwnNumbers.{d_is, no_read_cause}
 use Rattle.protocol_laws.proofs.Restored.{restored_fits, fits_no_fault, restored_area}
-use Rattle.protocol_laws.proofs.TraceAt.{traces_at}
+use Rattle.protocol_laws.proofs.TraceAt.{past_more, past_last, first_reply, traces_at}
 
 -- Sizes.
 
@@ -123,9 +123,6 @@ no_want h v i load t is (inr room) = elim (cases_eq t (meta i + 1)) [
 want_few : (h : Hardware) (v : disk.DiskImage) (i : Image) (load : Load) (t : ℕ) → IsOwnDisk h v i → t ≡ meta i + 1 → has_room h load (d_of i) ≡ false → want_cause h load.dump v load.loader (place t) ≡ Some (few_reply h load i)
 want_few h v i load t is here none = want_here h v i load t is here ∙ no_room h v i load is none
 
-content_by_want : (h : Hardware) (v : disk.DiskImage) (i : Image) (load : Load) (t : ℕ) → IsOwnDisk h v i → content_cause h load.dump v load.loader load.check (place t) ≡ want_cause h load.dump v load.loader (place t)
-content_by_want h v i load t is = ap (λ (o : Option Reply). or_else o (want_cause h load.dump v load.loader (place t))) (no_read_cause h v i load.check (place t) is)
-
 no_next : (h : Hardware) (v : disk.DiskImage) (i : Image) (t : ℕ) → IsOwnDisk h v i → next_cause h v t ≡ None
 no_next h v i t is =
     let count = count_is h v i is in
@@ -139,8 +136,9 @@ no_next h v i t is =
 
 no_cause : (h : Hardware) (v : disk.DiskImage) (i : Image) (load : Load) (t : ℕ) → IsOwnDisk h v i → GoesOn h load i t → cause_at h load.dump v load.loader load.check t ≡ None
 no_cause h v i load t is goes =
-    both_none (content_cause h load.dump v load.loader load.check (place t)) (next_cause h v t)
-    (content_by_want h v i load t is ∙ no_want h v i load t is goes) (no_next h v i t is)
+    let want = want_cause h load.dump v load.loader (place t) in
+    both_none (read_cause h v load.check (place t)) (or_else want (next_cause h v t)) (no_read_cause h v i load.check (place t) is)
+    (both_none want (next_cause h v t) (no_want h v i load t is goes) (no_next h v i t is))
 
 earlier_goes : (h : Hardware) (load : Load) (i : Image) (k t s : ℕ) → k ≡ t + 4 → s < t → Comes h load i k → GoesOn h load i s
 earlier_goes h load i k t s is lt (inl early) = inl (λ e. omega arith)
@@ -216,52 +214,49 @@ early_reply h load i k early some =
     ∙ late_loading h load i k (λ e. omega arith)
 
 -- what comes past a step without a cause
-past_is : (h : Hardware) (v : disk.DiskImage) (i : Image) (load : Load) (k t : ℕ) → IsOwnDisk h v i → k ≡ t + 4 → k < resume_steps i → GoesOn h load i t → reply_past h load.dump v load.loader t ≡ own_reply h load i k
+past_is : (h : Hardware) (v : disk.DiskImage) (i : Image) (load : Load) (k t : ℕ) → IsOwnDisk h v i → k ≡ t + 4 → k < resume_steps i → GoesOn h load i t → reply_past h load.dump v load.loader k ≡ own_reply h load i k
 past_is h v i load k t is four lt goes =
     let count = count_is h v i is in
     let step = own_late h load i k t four goes in
-    elim (cases_Bool (ltb (t + 1) (place_count (info_in h v).pages))) [
-      | inl more ↦ (
-          let less = ltb-true (t + 1) (place_count (info_in h v).pages) more in
-          let number : 5 + t ≡ k + 1 = omega arith in
-          cond-true (ltb (t + 1) (place_count (info_in h v).pages)) (reply.Loading (5 + t)) (last_reply h load.dump v load.loader) more
-          ∙ ap (λ (n : ℕ). reply.Loading n) number ∙ sym (step ∙ late_loading h load i k (λ e. omega arith))
-          )
-      | inr last ↦ (
-          let no_less : place_count (info_in h v).pages ≤ t + 1 = ltb-false (t + 1) (place_count (info_in h v).pages) last in
-          cond-false (ltb (t + 1) (place_count (info_in h v).pages)) (reply.Loading (5 + t)) (last_reply h load.dump v load.loader) last
-          ∙ ends_resumed h v i load.dump load.loader is ∙ sym (step ∙ late_resumed h load i k (omega arith))
-          )
+    elim (cases_lt (k + 1) (step_count h v)) [
+      | inl more ↦ past_more h load.dump v load.loader k more ∙ sym (step ∙ late_loading h load i k (λ e. omega arith))
+      | inr over ↦ past_last h load.dump v load.loader k over ∙ ends_resumed h v i load.dump load.loader is ∙ sym (step ∙ late_resumed h load i k (omega arith))
     ]
 
-later_reply : (h : Hardware) (v : disk.DiskImage) (i : Image) (load : Load) (k t : ℕ) → IsOwnDisk h v i → k ≡ t + 4 → k < resume_steps i → Comes h load i k → unwrap_or (cause_at h load.dump v load.loader load.check t) (reply_past h load.dump v load.loader t) ≡ own_reply h load i k
+later_reply : (h : Hardware) (v : disk.DiskImage) (i : Image) (load : Load) (k t : ℕ) → IsOwnDisk h v i → k ≡ t + 4 → k < resume_steps i → Comes h load i k → unwrap_or (cause_at h load.dump v load.loader load.check t) (reply_past h load.dump v load.loader k) ≡ own_reply h load i k
 later_reply h v i load k t is four lt comes = elim (cases_Bool (has_room h load (d_of i))) [
   | inl room ↦ goes_on (inr room)
   | inr none ↦ elim (cases_eq t (meta i + 1)) [
     | inl here ↦
-        ap (λ (o : Option Reply). unwrap_or (or_else o (next_cause h v t)) (reply_past h load.dump v load.loader t)) (content_by_want h v i load t is ∙ want_few h v i load t is here none)
+        let want = want_cause h load.dump v load.loader (place t) in
+        ap (λ (o : Option Reply). unwrap_or (or_else o (or_else want (next_cause h v t))) (reply_past h load.dump v load.loader k)) (no_read_cause h v i load.check (place t) is)
+        ∙ ap (λ (o : Option Reply). unwrap_or (or_else o (next_cause h v t)) (reply_past h load.dump v load.loader k)) (want_few h v i load t is here none)
         ∙ sym (own_few h load i k (omega arith) none)
     | inr other ↦ goes_on (inl other)
   ]
 ] where
-  goes_on : GoesOn h load i t → unwrap_or (cause_at h load.dump v load.loader load.check t) (reply_past h load.dump v load.loader t) ≡ own_reply h load i k
+  goes_on : GoesOn h load i t → unwrap_or (cause_at h load.dump v load.loader load.check t) (reply_past h load.dump v load.loader k) ≡ own_reply h load i k
   goes_on goes =
-      ap (λ (o : Option Reply). unwrap_or o (reply_past h load.dump v load.loader t)) (no_cause h v i load t is goes)
+      ap (λ (o : Option Reply). unwrap_or o (reply_past h load.dump v load.loader k)) (no_cause h v i load t is goes)
       ∙ past_is h v i load k t is four lt goes
+
+-- there is a map, and the info page
+some_places : (h : Hardware) (v : disk.DiskImage) → 4 < step_count h v
+some_places h v = omega arith
 
 -- a step over an own image answers what the plain machine does
 reply_own : (h : Hardware) (v : disk.DiskImage) (i : Image) (load : Load) (k : ℕ) → IsOwnDisk h v i → 1 ≤ k → k < resume_steps i → Comes h load i k → reply_at h load.dump v load.loader load.check k ≡ own_reply h load i k
 reply_own h v i load zero is some lt comes = absurd (omega arith)
 reply_own h v i load (suc zero) is some lt comes =
-    ap (λ (o : Option Reply). unwrap_or o (reply.Loading 2)) (no_header_cause h v i is.holds) ∙ sym (early_reply h load i 1 (omega arith) (are_few h v i is).some)
-reply_own h v i load (suc (suc zero)) is some lt comes = sym (early_reply h load i 2 (omega arith) (are_few h v i is).some)
+    ap (λ (o : Option Reply). unwrap_or o (reply_past h load.dump v load.loader 1)) (no_header_cause h v i is.holds) ∙ past_more h load.dump v load.loader 1 (omega arith) ∙ sym (early_reply h load i 1 (omega arith) (are_few h v i is).some)
+reply_own h v i load (suc (suc zero)) is some lt comes = past_more h load.dump v load.loader 2 (omega arith) ∙ sym (early_reply h load i 2 (omega arith) (are_few h v i is).some)
 reply_own h v i load (suc (suc (suc zero))) is some lt comes =
-    ap (λ (o : Option Reply). unwrap_or o (reply.Loading 4)) (no_taken_back_cause h v i is.holds is.own) ∙ sym (early_reply h load i 3 (omega arith) (are_few h v i is).some)
+    ap (λ (o : Option Reply). unwrap_or o (reply_past h load.dump v load.loader 3)) (no_taken_back_cause h v i is.holds is.own) ∙ past_more h load.dump v load.loader 3 (some_places h v) ∙ sym (early_reply h load i 3 (omega arith) (are_few h v i is).some)
 reply_own h v i load (suc (suc (suc (suc t)))) is some lt comes = later_reply h v i load (suc (suc (suc (suc t)))) t is (omega arith) lt comes
 
 -- and each before it went on
 gone_on : (h : Hardware) (v : disk.DiskImage) (i : Image) (load : Load) (k j : ℕ) → IsOwnDisk h v i → k < resume_steps i → Comes h load i k → j < k → reply_at h load.dump v load.loader load.check j ≡ reply.Loading (j + 1)
-gone_on h v i load k zero is lt comes j_lt = refl
+gone_on h v i load k zero is lt comes j_lt = first_reply h load.dump v load.loader load.check
 gone_on h v i load k (suc j) is lt comes j_lt =
     let some = (are_few h v i is).some in
     let goes = earlier_comes h load i k (suc j) j_lt comes in

@@ -1,24 +1,23 @@
 -- The step at which the last number is read.
-use Rattle.std.proofs.Common.{◌≡◌, ℕ, ◌+◌, ◌%◌, ◌<◌, ◌⊎◌, ◌||◌, Bool, true, false, not, cond, eqb, ltb, List, Option, Some, None, is_none, refl, sym, ap, ◌∙◌, inl, inr, arith}
-use Rattle.std.proofs.lemmas.Bool.{cases_eq, cases_lt, cond-true, cond-false, eq-eqb, ne_eqb, false≢true}
+use Rattle.std.proofs.Common.{◌≡◌, ℕ, ◌+◌, ◌%◌, ◌<◌, ◌||◌, Bool, true, false, not, cond, eqb, ltb, List, Option, Some, None, refl, sym, ap, ◌∙◌, inl, inr, arith}
+use Rattle.std.proofs.lemmas.Bool.{cases_eq, cases_lt, eq-eqb, false≢true}
 use Rattle.std.proofs.lemmas.Option.{none-some}
 use Rattle.page_core.specs.declared.format.Format.{Format}
 use Rattle.page_core.specs.declared.format.Format.TheVariants.{Plain, SkipZeros}
 use Rattle.definitions.specs.Disk as disk
 use Rattle.definitions.specs.NumberPages.{meta_of}
-use Rattle.plain_machine.specs.Machine.{Hardware, Memory, valid_count}
+use Rattle.plain_machine.specs.Machine.{Hardware, valid_count}
 use Rattle.plain_machine.specs.Chain.{or_else}
-use Rattle.plain_machine.specs.Trace.{Place, map_at, page_at, info_in, format_in, meta_in, place, are_bad_counts, identity_cause, memory_cause, counts_cause, info_cause, read_cause, want_cause, next_cause, room_cause}
+use Rattle.plain_machine.specs.Trace.{Place, map_at, page_at, info_in, format_in, meta_in, place, are_bad_counts, identity_cause, memory_cause, counts_cause, info_cause, read_cause}
 use Rattle.plain_machine.specs.declared.event.IdentCheck.{IdentCheck}
-use Rattle.plain_machine.specs.declared.event.Loader.{Loader}
 use Rattle.plain_machine.specs.declared.reply.Reply.{Reply}
 use Rattle.plain_machine.specs.declared.reply.Reply.TheVariants as reply
 use Rattle.image_read.specs.Reading.{Reading}
 use Rattle.image_read.specs.Stream.{HasReadPlaces, pages_read, numbers_read, told}
 use Rattle.image_read.proofs.Places.{at_map, at_page, read_at_map, read_at_page}
 use Rattle.image_read.proofs.Read.{saved_is, told_all, told_more}
-use Rattle.restore_laws.specs.Listing.{IsListedAt, ListsAt, JustListed, ListedElsewhere, StaysListed}
-use Rattle.restore_laws.proofs.DataPlaces.{told_none, told_some, told_same, told_later}
+use Rattle.restore_laws.specs.Listing.{IsListedAt, ListsAt}
+use Rattle.restore_laws.proofs.DataPlaces.{told_none, told_some}
 
 -- Some numbers are listed.
 
@@ -108,54 +107,3 @@ lists_at h v check r t origs zeros reading sound = (
     | inr apart ↦ at_page t apart ∙ ap page_at (there_listed h v t (some_read h v check r t origs zeros reading sound apart) apart listed)
   ],
 )
-
--- The room is wanted there, and nowhere else.
-
-want_there : (h : Hardware) (dump : Memory) (v : disk.DiskImage) (loader : Loader) (here : Place) → here ≡ page_at (meta_in h v) → want_cause h dump v loader here ≡ room_cause h dump v loader
-want_there h dump v loader here is =
-    ap (want_cause h dump v loader) is ∙ cond-true (eqb (meta_in h v) (meta_in h v)) (room_cause h dump v loader) None (eq-eqb (meta_in h v) (meta_in h v) refl)
-
-want_none : (h : Hardware) (dump : Memory) (v : disk.DiskImage) (loader : Loader) (here : Place) → (here ≡ page_at (meta_in h v) → ⊥) → want_cause h dump v loader here ≡ None
-want_none h dump v loader (map_at j) isn't = refl
-want_none h dump v loader (page_at k) isn't = cond-false (eqb k (meta_in h v)) (room_cause h dump v loader) None (ne_eqb k (meta_in h v) (λ e. isn't (ap page_at e)))
-
--- told after a cause, and without one
-by_cause : (o : Option Reply) (x y : Option ℕ) → ((o ≡ None) × (cond (is_none o) x y ≡ x)) ⊎ ((r : Reply) × (o ≡ Some r) × (cond (is_none o) x y ≡ y))
-by_cause None x y = inl (refl, refl)
-by_cause (Some r) x y = inr (r, refl, refl)
-
-pub just_listed : JustListed
-just_listed h dump v loader check r t n origs zeros reading none listed =
-    let before : told h v (pages_read t) ≡ None = sym reading.listed ∙ none in
-    elim (by_cause (read_cause h v check (place t)) (told h v (pages_read (t + 1))) (told h v (pages_read t))) [
-      | inl sound ↦
-          let after : told h v (pages_read (t + 1)) ≡ Some n = sym sound.1 ∙ listed in
-          let all : told h v (pages_read (t + 1)) ≡ Some (info_in h v).image_pages = told_same h v (pages_read (t + 1)) n after in
-          let here = (lists_at h v check r t origs zeros reading sound.0).1 (before, all) in
-          record {
-            read = sound.0;
-            room = ap (λ (o : Option Reply). or_else o (want_cause h dump v loader (place t))) sound.0 ∙ want_there h dump v loader (place t) here;
-            next = ap (λ (o : Option Reply). or_else o (next_cause h v t)) sound.0;
-          }
-      | inr wrong ↦ absurd (none-some n (sym before ∙ sym wrong.2 ∙ listed))
-    ]
-
-pub listed_elsewhere : ListedElsewhere
-listed_elsewhere h dump v loader check r t origs zeros reading still =
-    let want = want_cause h dump v loader (place t) in
-    elim (by_cause (read_cause h v check (place t)) (told h v (pages_read (t + 1))) (told h v (pages_read t))) [
-      | inl sound ↦
-          let apart : place t ≡ page_at (meta_in h v) → ⊥ = λ here.
-          let at = (lists_at h v check r t origs zeros reading sound.0).0 here in
-          none-some (info_in h v).image_pages (sym (still (reading.listed ∙ at.0)) ∙ sound.1 ∙ at.1) in
-          ap (λ (o : Option Reply). or_else o want) sound.0 ∙ want_none h dump v loader (place t) apart ∙ sym sound.0
-      | inr wrong ↦ ap (λ (o : Option Reply). or_else o want) wrong.1 ∙ sym wrong.1
-    ]
-
-pub stays_listed : StaysListed
-stays_listed h v check r t n origs zeros reading some =
-    let before : told h v (pages_read t) ≡ Some n = sym reading.listed ∙ some in
-    elim (by_cause (read_cause h v check (place t)) (told h v (pages_read (t + 1))) (told h v (pages_read t))) [
-      | inl sound ↦ sound.1 ∙ told_later h v t n before
-      | inr wrong ↦ wrong.2 ∙ before
-    ]

@@ -1,27 +1,28 @@
 -- What a resume answers at a place, by the reader's causes and the loader's room.
-use Rattle.std.proofs.Common.{◌≡◌, ◌≢◌, ◌<◌, ◌≤◌, inl, inr, ℕ, ◌+◌, ◌-◌, ◌*◌, ◌%◌, suc, zero, min, Bool, true, false, cond, eqb, ltb, Option, Some, None, unwrap_or, refl, sym, ap, ◌∙◌, subst, arith}
-use Rattle.std.proofs.lemmas.Bool.{cond-true, cond-false, ne_eqb, lt-ltb, le-ltb}
+use Rattle.std.proofs.Common.{◌≡◌, ◌≢◌, ◌<◌, ◌≤◌, inl, inr, ℕ, ◌+◌, ◌-◌, ◌*◌, ◌%◌, suc, zero, min, Bool, true, false, cond, eqb, Option, Some, None, unwrap_or, refl, sym, ap, ◌∙◌, subst, arith}
+use Rattle.std.proofs.lemmas.Bool.{cond-true, cond-false, ne_eqb}
 use Rattle.std.proofs.lemmas.Bool.Decides.{eqb_tells}
 use Rattle.std.proofs.lemmas.Option.{none-some}
 use Rattle.definitions.specs.Disk as disk
 use Rattle.plain_machine.specs.Machine.{Hardware, Memory}
 use Rattle.plain_machine.specs.Chain.{or_else}
-use Rattle.plain_machine.specs.Trace.{info_in, meta_in, place, place_count, read_cause, want_cause, room_cause, content_cause, next_cause, last_reply}
+use Rattle.plain_machine.specs.Trace.{info_in, meta_in, place, place_count, read_cause, want_cause, room_cause, next_cause, cause_with, cause_at, last_reply}
 use Rattle.plain_machine.specs.declared.event.Loader.{Loader}
 use Rattle.plain_machine.specs.declared.event.IdentCheck.{IdentCheck}
 use Rattle.plain_machine.specs.declared.reply.Reply.{Reply}
 use Rattle.plain_machine.specs.declared.reply.Reply.TheVariants as reply
-use Rattle.image_read.specs.Stream.{pages_read, told, numbers_read, step_cause}
+use Rattle.image_read.specs.Stream.{pages_read, told, numbers_read}
 use Rattle.image_read.proofs.Places.{at_map, at_page, read_at_page}
 use Rattle.protocol_laws.specs.TraceAt.{reply_at, reply_past}
+use Rattle.protocol_laws.proofs.TraceAt.{past_more, past_last}
 
 -- The reply of a step from the fifth on.
 pub late_reply : (h : Hardware) (dump : Memory) (v : disk.DiskImage) (loader : Loader) (check : IdentCheck) (k : ℕ) → 4 ≤ k →
-    reply_at h dump v loader check k ≡ unwrap_or (or_else (content_cause h dump v loader check (place (k - 4))) (next_cause h v (k - 4))) (reply_past h dump v loader (k - 4))
+    reply_at h dump v loader check k ≡ unwrap_or (cause_at h dump v loader check (k - 4)) (reply_past h dump v loader k)
 late_reply h dump v loader check k le =
     let t = k - 4 in
     let is : suc (suc (suc (suc t))) ≡ k = omega arith in
-    subst (λ (n : ℕ). reply_at h dump v loader check n ≡ unwrap_or (or_else (content_cause h dump v loader check (place t)) (next_cause h v t)) (reply_past h dump v loader t)) is refl
+    subst (λ (n : ℕ). reply_at h dump v loader check n ≡ unwrap_or (cause_at h dump v loader check t) (reply_past h dump v loader n)) is refl
 
 first_none : (a b : Option Reply) → or_else a b ≡ None → a ≡ None
 first_none None b e = refl
@@ -32,47 +33,40 @@ second_none None b e = e
 second_none (Some r) b e = absurd (none-some r (sym e))
 
 -- with room, what is wrong is what the reader says
-with_room : (a w n : Option Reply) → w ≡ None → or_else (or_else a w) n ≡ or_else a n
-with_room None w n e = ap (λ (x : Option Reply). or_else x n) e
-with_room (Some r) w n e = refl
+with_room : (a w n : Option Reply) → w ≡ None → or_else a (or_else w n) ≡ or_else a n
+with_room a w n e = ap (λ (x : Option Reply). or_else a (or_else x n)) e
+
+-- so it answers what comes past the reader's cause
+reader_reply : (h : Hardware) (dump : Memory) (v : disk.DiskImage) (loader : Loader) (check : IdentCheck) (k : ℕ) (o : Option Reply) → 4 ≤ k → cause_with h v check None (k - 4) ≡ o → want_cause h dump v loader (place (k - 4)) ≡ None →
+    reply_at h dump v loader check k ≡ unwrap_or o (reply_past h dump v loader k)
+reader_reply h dump v loader check k o le is room =
+    let t = k - 4 in
+    late_reply h dump v loader check k le
+    ∙ ap (λ (x : Option Reply). unwrap_or x (reply_past h dump v loader k)) (with_room (read_cause h v check (place t)) (want_cause h dump v loader (place t)) (next_cause h v t) room ∙ is)
 
 -- a step that goes on
-pub goes_reply : (h : Hardware) (dump : Memory) (v : disk.DiskImage) (loader : Loader) (check : IdentCheck) (k : ℕ) → 4 ≤ k → step_cause h v check (k - 4) ≡ None → want_cause h dump v loader (place (k - 4)) ≡ None → k - 4 + 1 < place_count (info_in h v).pages →
+pub goes_reply : (h : Hardware) (dump : Memory) (v : disk.DiskImage) (loader : Loader) (check : IdentCheck) (k : ℕ) → 4 ≤ k → cause_with h v check None (k - 4) ≡ None → want_cause h dump v loader (place (k - 4)) ≡ None → k - 4 + 1 < place_count (info_in h v).pages →
     reply_at h dump v loader check k ≡ reply.Loading (k + 1)
-goes_reply h dump v loader check k le none room more =
-    let t = k - 4 in
-    let past : ltb (t + 1) (place_count (info_in h v).pages) ≡ true = lt-ltb (t + 1) (place_count (info_in h v).pages) more in
-    let is : 5 + t ≡ k + 1 = omega arith in
-    late_reply h dump v loader check k le
-    ∙ ap (λ (o : Option Reply). unwrap_or o (reply_past h dump v loader t)) (with_room (read_cause h v check (place t)) (want_cause h dump v loader (place t)) (next_cause h v t) room ∙ none)
-    ∙ cond-true (ltb (t + 1) (place_count (info_in h v).pages)) (reply.Loading (5 + t)) (last_reply h dump v loader) past ∙ ap reply.Loading is
+goes_reply h dump v loader check k le none room more = reader_reply h dump v loader check k None le none room ∙ past_more h dump v loader k (omega arith)
 
 -- the last step
-pub ends_reply : (h : Hardware) (dump : Memory) (v : disk.DiskImage) (loader : Loader) (check : IdentCheck) (k : ℕ) → 4 ≤ k → step_cause h v check (k - 4) ≡ None → want_cause h dump v loader (place (k - 4)) ≡ None → place_count (info_in h v).pages ≤ k - 4 + 1 →
+pub ends_reply : (h : Hardware) (dump : Memory) (v : disk.DiskImage) (loader : Loader) (check : IdentCheck) (k : ℕ) → 4 ≤ k → cause_with h v check None (k - 4) ≡ None → want_cause h dump v loader (place (k - 4)) ≡ None → place_count (info_in h v).pages ≤ k - 4 + 1 →
     reply_at h dump v loader check k ≡ last_reply h dump v loader
-ends_reply h dump v loader check k le none room over =
-    let t = k - 4 in
-    let past : ltb (t + 1) (place_count (info_in h v).pages) ≡ false = le-ltb (t + 1) (place_count (info_in h v).pages) over in
-    late_reply h dump v loader check k le
-    ∙ ap (λ (o : Option Reply). unwrap_or o (reply_past h dump v loader t)) (with_room (read_cause h v check (place t)) (want_cause h dump v loader (place t)) (next_cause h v t) room ∙ none)
-    ∙ cond-false (ltb (t + 1) (place_count (info_in h v).pages)) (reply.Loading (5 + t)) (last_reply h dump v loader) past
+ends_reply h dump v loader check k le none room over = reader_reply h dump v loader check k None le none room ∙ past_last h dump v loader k (omega arith)
 
 -- one that the reader's cause ends
-pub stops_reply : (h : Hardware) (dump : Memory) (v : disk.DiskImage) (loader : Loader) (check : IdentCheck) (k : ℕ) (r : Reply) → 4 ≤ k → step_cause h v check (k - 4) ≡ Some r → want_cause h dump v loader (place (k - 4)) ≡ None → reply_at h dump v loader check k ≡ r
-stops_reply h dump v loader check k r le some room =
-    let t = k - 4 in
-    late_reply h dump v loader check k le
-    ∙ ap (λ (o : Option Reply). unwrap_or o (reply_past h dump v loader t)) (with_room (read_cause h v check (place t)) (want_cause h dump v loader (place t)) (next_cause h v t) room ∙ some)
+pub stops_reply : (h : Hardware) (dump : Memory) (v : disk.DiskImage) (loader : Loader) (check : IdentCheck) (k : ℕ) (r : Reply) → 4 ≤ k → cause_with h v check None (k - 4) ≡ Some r → want_cause h dump v loader (place (k - 4)) ≡ None → reply_at h dump v loader check k ≡ r
+stops_reply h dump v loader check k r le some room = reader_reply h dump v loader check k (Some r) le some room
 
 -- one that the loader's room ends
 pub room_reply : (h : Hardware) (dump : Memory) (v : disk.DiskImage) (loader : Loader) (check : IdentCheck) (k : ℕ) (r : Reply) → 4 ≤ k → read_cause h v check (place (k - 4)) ≡ None → want_cause h dump v loader (place (k - 4)) ≡ Some r → reply_at h dump v loader check k ≡ r
 room_reply h dump v loader check k r le none few =
     let t = k - 4 in
     late_reply h dump v loader check k le
-    ∙ ap (λ (o : Option Reply). unwrap_or (or_else (or_else o (want_cause h dump v loader (place t))) (next_cause h v t)) (reply_past h dump v loader t)) none
-    ∙ ap (λ (o : Option Reply). unwrap_or (or_else o (next_cause h v t)) (reply_past h dump v loader t)) few
+    ∙ ap (λ (o : Option Reply). unwrap_or (or_else o (or_else (want_cause h dump v loader (place t)) (next_cause h v t))) (reply_past h dump v loader k)) none
+    ∙ ap (λ (o : Option Reply). unwrap_or (or_else o (next_cause h v t)) (reply_past h dump v loader k)) few
 
-pub no_read_cause : (h : Hardware) (v : disk.DiskImage) (check : IdentCheck) (t : ℕ) → step_cause h v check t ≡ None → read_cause h v check (place t) ≡ None
+pub no_read_cause : (h : Hardware) (v : disk.DiskImage) (check : IdentCheck) (t : ℕ) → cause_with h v check None t ≡ None → read_cause h v check (place t) ≡ None
 no_read_cause h v check t none = first_none (read_cause h v check (place t)) (next_cause h v t) none
 
 -- Where the room is tested.

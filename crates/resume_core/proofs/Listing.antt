@@ -3,9 +3,9 @@ use Rattle.std.proofs.Common.{◌≡◌, ◌<◌, ◌≤◌, ◌⊎◌, inl, inr
 use Rattle.std.specs.List.{zip}
 use Rattle.definitions.specs.Disk as disk
 use Rattle.image_read.specs.Answers.{Reads, Answers, GoesOn}
-use Rattle.image_read.specs.Reading.{Reading, HasReadAll, IsReady}
+use Rattle.image_read.specs.Reading.{Reading, HasReadAll, IsReady, places_left}
 use Rattle.image_read.specs.Stream as stream
-use Rattle.image_read.specs.Stream.{pages_read, told, known_pages, step_cause}
+use Rattle.image_read.specs.Stream.{pages_read, told, known_pages}
 use Rattle.image_read.specs.declared.reader.ReadStep.{ReadStep}
 use Rattle.image_read.specs.declared.reader.ReadStep.TheVariants as read_step
 use Rattle.page_restore.specs.Waiting.{waiting_pages}
@@ -14,7 +14,7 @@ use Rattle.plain_machine.specs.Image.{Image, with_data}
 use Rattle.plain_machine.specs.Shows.{loads}
 use Rattle.plain_machine.specs.Stands.{data_read}
 use Rattle.plain_machine.specs.State.{off, loading, nothing, found_own, Load as Resume}
-use Rattle.plain_machine.specs.Trace.{info_in, place_count, data_frames, data_pages}
+use Rattle.plain_machine.specs.Trace.{info_in, place_count, data_frames, data_pages, cause_with}
 use Rattle.plain_machine.specs.declared.event.Event.TheVariants as event
 use Rattle.plain_machine.specs.declared.event.Actor.TheVariants as actor
 use Rattle.plain_machine.specs.declared.reply.Reply.{Reply}
@@ -175,14 +175,38 @@ abbrev pub HasNoCause : ReadStep → Type 0
 HasNoCause result = ((k : ℕ) × (result ≡ read_step.More k)) ⊎ (((pfn : ℕ) × (result ≡ read_step.Page pfn)) ⊎ (result ≡ read_step.Done))
 
 -- the reader can go on then
-pub may_go_on : (result : ReadStep) (r : Reading) (origs zeros : List ℕ) → HasNoCause result → GoesOn result r origs zeros → IsReady r origs zeros
-may_go_on result r origs zeros none goes = elim none [
-  | inl more ↦ subst (λ (s : ReadStep). GoesOn s r origs zeros) more.1 goes
+pub may_go_on : (result : ReadStep) (old r : Reading) (origs zeros : List ℕ) → HasNoCause result → GoesOn result old r origs zeros → IsReady r origs zeros
+may_go_on result old r origs zeros none goes = elim none [
+  | inl more ↦ (subst (λ (s : ReadStep). GoesOn s old r origs zeros) more.1 goes).0
   | inr other ↦ elim other [
-    | inl page ↦ subst (λ (s : ReadStep). GoesOn s r origs zeros) page.1 goes
-    | inr done ↦ subst (λ (s : ReadStep). GoesOn s r origs zeros) done goes
+    | inl page ↦ (subst (λ (s : ReadStep). GoesOn s old r origs zeros) page.1 goes).0
+    | inr done ↦ subst (λ (s : ReadStep). GoesOn s old r origs zeros) done goes
   ]
 ]
+
+-- a block was read
+abbrev pub HasReadBlock : ReadStep → Type 0
+HasReadBlock result = ((k : ℕ) × (result ≡ read_step.More k)) ⊎ ((pfn : ℕ) × (result ≡ read_step.Page pfn))
+
+pub no_cause : (result : ReadStep) → HasReadBlock result → HasNoCause result
+no_cause result (inl more) = inl more
+no_cause result (inr page) = inr (inl page)
+
+pub place_less : (result : ReadStep) (old r : Reading) (origs zeros : List ℕ) → HasReadBlock result → GoesOn result old r origs zeros → places_left r + 1 ≡ places_left old
+place_less result old r origs zeros read goes = elim read [
+  | inl more ↦ (subst (λ (s : ReadStep). GoesOn s old r origs zeros) more.1 goes).1
+  | inr page ↦ (subst (λ (s : ReadStep). GoesOn s old r origs zeros) page.1 goes).1
+]
+
+-- Where all blocks were read before the last number the disk isn't as the resume has found it.
+pub over_list_row : (machine : Machine) (frames : Memory) (load : Load) (chain : OpenChain) (machine' : Machine) (frames' : Memory) (load' : Load) (r : Reply) (c : disk.Content) → load.stage ≡ stage.List chain → HasReadAll chain.reader →
+    Simulates machine frames load machine' frames' load' (event.Step actor.Core) r c c
+over_list_row machine frames load chain machine' frames' load' r c at over =
+    row_at_load machine frames load machine' frames' load' (event.Step actor.Core) r c c chain.done (activity_is load (stage.List chain) at)
+    (λ l s.
+    let knows = knows_at machine frames load c l chain.done (stage.List chain) at s in
+    let within : chain.done - 4 < place_count (info_in machine.hw knows.0).pages = (let lt = knows.3 in omega arith) in
+    absurd (not_over machine.hw knows.0 chain.reader load (chain.done - 4) knows.4 within over))
 
 -- what the reader answered for place t of the disk v, from one reading to the other
 abbrev pub AnswersFor : Hardware → disk.DiskImage → ℕ → ReadStep → OpenChain → OpenChain → Load → Load → Type 0
@@ -190,7 +214,7 @@ AnswersFor h v t result chain chain' load mid = Answers h v load.check t result 
 
 -- what was read, and that nothing is wrong with it
 pub read_on : (h : Hardware) (v : disk.DiskImage) (t : ℕ) (result : ReadStep) (chain chain' : OpenChain) (old new : Load) → new.check ≡ old.check → HasReader h v chain.reader old t → t < place_count (info_in h v).pages → HasNoCause result → AnswersFor h v t result chain chain' old new →
-    (step_cause h v old.check t ≡ None) × HasReader h v chain'.reader new (t + 1)
+    (cause_with h v old.check None t ≡ None) × HasReader h v chain'.reader new (t + 1)
 read_on h v t result chain chain' old new check was within none answers = elim none [
   | inl more ↦ (let a = subst (λ (s : ReadStep). AnswersFor h v t s chain chain' old new) more.1 answers in
       (a.0, subst (λ (x : IdentCheck). stream.HasReadPlaces h v x chain'.reader (t + 1) new.origs.members new.zeros.members) (sym check) a.1))
@@ -230,7 +254,7 @@ listed_on machine frames load mid chain chain' machine' frames' load' result r c
       reading = record { hardware = hardware; late = late; within = knows.3; stands = s.stands; found = knows.1.found; gone_on = knows.2 };
       loader = same_loader h load mid l (ap (λ (w : Awaiting). w.free) waiting) (ap (λ (x : Load). x.loader) is) check (loader_of machine frames load c l chain.done s);
       found = found_in machine chain chain' c l v is' knows.1;
-      sound = subst (λ (x : IdentCheck). step_cause h v x t ≡ None) (loader_of machine frames load c l chain.done s).check read.0;
+      sound = subst (λ (x : IdentCheck). cause_with h v x None t ≡ None) (loader_of machine frames load c l chain.done s).check read.0;
       read = read.1;
       kept = s.stands.parts.resume.shows.kept;
       done = ap (λ (x : OpenChain). x.done) is';

@@ -12,7 +12,7 @@ use Rattle.safe_pages.specs.Placed.{sources}
 use Rattle.image_read.specs.Causes.{reply_of}
 use Rattle.image_read.specs.Reading.{Reading}
 use Rattle.image_read.specs.Taking as taking
-use Rattle.image_read.specs.Stream.{pages_read, told, frames_in, marked_in, numbers_read, frame_at, place_block, step_cause}
+use Rattle.image_read.specs.Stream.{pages_read, told, frames_in, marked_in, numbers_read, frame_at, place_block}
 use Rattle.image_read.specs.Answers.{Reads, told_after}
 use Rattle.image_read.specs.declared.cause.Cause.{Cause}
 use Rattle.image_read.specs.declared.cause.Cause.TheVariants as cause
@@ -38,7 +38,7 @@ use Rattle.plain_machine.specs.Loader.{left_free}
 use Rattle.plain_machine.specs.Image as image
 use Rattle.plain_machine.specs.Stands.{data_read}
 use Rattle.plain_machine.specs.State.{off, loading, nothing, Load as Resume}
-use Rattle.plain_machine.specs.Trace.{info_in, meta_in, stream_page, d_in, place, Place, place_count, read_cause, want_cause, room_cause, content_cause, next_cause, data_frames, data_page, data_pages}
+use Rattle.plain_machine.specs.Trace.{info_in, meta_in, stream_page, d_in, place, Place, place_count, read_cause, want_cause, room_cause, next_cause, cause_at, data_frames, data_page, data_pages, cause_with}
 use Rattle.plain_machine.specs.declared.event.Loader.{Loader}
 use Rattle.plain_machine.specs.declared.reply.Reply.{Reply}
 use Rattle.plain_machine.specs.declared.reply.Reply.TheVariants as reply
@@ -133,8 +133,8 @@ room_tested machine frames load chain c l v k read listed before =
     want_listed h l.dump v l.loader (k - 4) before after
     ∙ room_is h l.dump v l.loader (length load.waiting.free) (length (with_data load.origs.members load.zeros.members)) (ap length read.loader.free) (ap length (data_are h v chain.reader load (k - 4 + 1) read.read after) ∙ sym (count_is h v))
 
-content_of_room : (a w n : Option Reply) (r : Reply) → a ≡ None → w ≡ Some r → or_else (or_else a w) n ≡ Some r
-content_of_room a w n r none some = ap (λ (x : Option Reply). or_else (or_else x w) n) none ∙ ap (λ (x : Option Reply). or_else x n) some
+content_of_room : (a w n : Option Reply) (r : Reply) → a ≡ None → w ≡ Some r → or_else a (or_else w n) ≡ Some r
+content_of_room a w n r none some = ap (λ (x : Option Reply). or_else x (or_else w n)) none ∙ ap (λ (x : Option Reply). or_else x n) some
 
 -- too little room
 pub few_row : (machine : Machine) (frames : Memory) (load load' : Load) (chain : OpenChain) (why : Reply) → IsSome chain.reader.listed → room_refusal (length load.waiting.free) (length (with_data load.origs.members load.zeros.members)) ≡ Some why → load'.stage ≡ stage.Rest →
@@ -277,7 +277,7 @@ can_go_on machine frames frames' runs load load' waiting content result can read
     let chain' = record read.chain { reader = read.reader } in
     let was = read_can machine frames runs load read.chain read.was can in
     let next : CanMake (stage.Read chain') machine frames' runs (record load' { waiting = waiting }) = (
-      record { ready = may_go_on result read.reader load'.origs.members load'.zeros.members none read.goes_on; within = read.within },
+      record { ready = may_go_on result read.chain.reader read.reader load'.origs.members load'.zeros.members none read.goes_on; within = read.within },
       was.1,
       ap (λ (w : Awaiting). w.placement.ready) same ∙ was.2,
     ) in
@@ -321,7 +321,7 @@ refused_row machine frames frames' load mid load' chain chain' result why c hard
     let knows = knows_at machine frames load c l k (stage.Read chain) at s in
     let v = knows.0 in
     let a = subst (λ (x : ReadStep). AnswersFor h v (k - 4) x chain chain' load mid) is (answers v (k - 4) knows.4 knows.1.reads) in
-    let cause : step_cause h v l.check (k - 4) ≡ Some (reply_of why) = subst (λ (x : IdentCheck). step_cause h v x (k - 4) ≡ Some (reply_of why)) (loader_of machine frames load c l k s).check a.0 in
+    let cause : cause_with h v l.check None (k - 4) ≡ Some (reply_of why) = subst (λ (x : IdentCheck). cause_with h v x None (k - 4) ≡ Some (reply_of why)) (loader_of machine frames load c l k s).check a.0 in
     let want = no_want_after h l.dump v l.loader (k - 4) knows.5.listed in (
       off nothing None,
       leads machine frames' load' (reply_of why) c c (loading l k) (off nothing None) (stopped_early machine frames' c (reply_of why) (loading l k) (off nothing None) (cause_stop why))
@@ -363,7 +363,7 @@ read_on_row machine frames frames' load mid after chain chain' machine' frames''
       reading = record { hardware = hardware; late = late; within = knows.3; stands = s.stands; found = knows.1.found; gone_on = knows.2 };
       loader = same_loader h load after l free' (ap (λ (x : Load). x.loader) is' ∙ ap (λ (x : Load). x.loader) is) check' (loader_of machine frames load c l chain.done s);
       found = found_in machine chain chain' c l v is_chain knows.1;
-      sound = subst (λ (x : IdentCheck). step_cause h v x t ≡ None) (loader_of machine frames load c l chain.done s).check read.0;
+      sound = subst (λ (x : IdentCheck). cause_with h v x None t ≡ None) (loader_of machine frames load c l chain.done s).check read.0;
       read = subst (λ (x : Load). HasReader h v chain'.reader x (t + 1)) (sym is') read.1;
       kept = λ p lt not. others p (λ has. not (subst (λ (ps : List ℕ). Contains ps p) s.resume.free has)) ∙ s.stands.parts.resume.shows.kept p lt not;
       done = ap (λ (x : OpenChain). x.done) is_chain;
@@ -464,20 +464,16 @@ no_page result is = elim is [ inl more ↦ inl more | inr done ↦ inr (inr done
 
 -- A refusal before all is listed, or after the last number page.
 
-first_cause : (a w n : Option Reply) (x r : Reply) → a ≡ Some x → or_else a n ≡ Some r → or_else (or_else a w) n ≡ Some r
-first_cause a w n x r e some = ap (λ (y : Option Reply). or_else (or_else y w) n) e ∙ sym (ap (λ (y : Option Reply). or_else y n) e) ∙ some
+first_cause : (a w n : Option Reply) (x r : Reply) → a ≡ Some x → or_else a n ≡ Some r → or_else a (or_else w n) ≡ Some r
+first_cause a w n x r e some = ap (λ (y : Option Reply). or_else y (or_else w n)) e ∙ sym (ap (λ (y : Option Reply). or_else y n) e) ∙ some
 
-with_room : (a w n : Option Reply) (r : Reply) → w ≡ None → or_else a n ≡ Some r → or_else (or_else a w) n ≡ Some r
-with_room None w n r none some = ap (λ (y : Option Reply). or_else y n) none ∙ some
-with_room (Some x) w n r none some = some
+with_room : (a w n : Option Reply) (r : Reply) → w ≡ None → or_else a n ≡ Some r → or_else a (or_else w n) ≡ Some r
+with_room a w n r none some = ap (λ (y : Option Reply). or_else a (or_else y n)) none ∙ some
 
-abbrev pub all_causes : Hardware → Memory → disk.DiskImage → Loader → IdentCheck → ℕ → Option Reply
-all_causes h dump v loader check t = or_else (content_cause h dump v loader check (place t)) (next_cause h v t)
-
-behind_room : (h : Hardware) (dump : Memory) (v : disk.DiskImage) (loader : Loader) (check : IdentCheck) (t have d n : ℕ) (why : Cause) → step_cause h v check t ≡ Some (reply_of why) → read_cause h v check (place t) ≡ None → want_cause h dump v loader (place t) ≡ room_refusal have d →
-    all_causes h dump v loader check t ≡ Some (refusal_behind (Some n) have d why)
+behind_room : (h : Hardware) (dump : Memory) (v : disk.DiskImage) (loader : Loader) (check : IdentCheck) (t have d n : ℕ) (why : Cause) → cause_with h v check None t ≡ Some (reply_of why) → read_cause h v check (place t) ≡ None → want_cause h dump v loader (place t) ≡ room_refusal have d →
+    cause_at h dump v loader check t ≡ Some (refusal_behind (Some n) have d why)
 behind_room h dump v loader check t have d n why some none want = by (room_refusal have d) refl where
-  by : (o : Option Reply) → room_refusal have d ≡ o → all_causes h dump v loader check t ≡ Some (refusal_behind (Some n) have d why)
+  by : (o : Option Reply) → room_refusal have d ≡ o → cause_at h dump v loader check t ≡ Some (refusal_behind (Some n) have d why)
   by None e =
       with_room (read_cause h v check (place t)) (want_cause h dump v loader (place t)) (next_cause h v t) (reply_of why) (want ∙ e) some
       ∙ ap (λ (r : Reply). Some r) (refusal_cause (Some n) have d why e)
@@ -486,10 +482,10 @@ behind_room h dump v loader check t have d n why some none want = by (room_refus
       ∙ ap (λ (r : Reply). Some r) (refusal_few (Some n) have d why few refl e)
 
 -- what the answer is, by what the reader has listed then
-pub refusal_is : (h : Hardware) (dump : Memory) (v : disk.DiskImage) (loader : Loader) (check : IdentCheck) (t have d : ℕ) (listed : Option ℕ) (why : Cause) → step_cause h v check t ≡ Some (reply_of why) → listed ≡ told_after h v check t → told h v (pages_read t) ≡ None →
-    have ≡ length (left_free h dump loader) → ((n : ℕ) → listed ≡ Some n → d ≡ d_in h v) → all_causes h dump v loader check t ≡ Some (refusal_behind listed have d why)
+pub refusal_is : (h : Hardware) (dump : Memory) (v : disk.DiskImage) (loader : Loader) (check : IdentCheck) (t have d : ℕ) (listed : Option ℕ) (why : Cause) → cause_with h v check None t ≡ Some (reply_of why) → listed ≡ told_after h v check t → told h v (pages_read t) ≡ None →
+    have ≡ length (left_free h dump loader) → ((n : ℕ) → listed ≡ Some n → d ≡ d_in h v) → cause_at h dump v loader check t ≡ Some (refusal_behind listed have d why)
 refusal_is h dump v loader check t have d listed why some is before free count = by_read (read_cause h v check (place t)) refl where
-  by_told : (o : Option ℕ) → told h v (pages_read (t + 1)) ≡ o → listed ≡ told h v (pages_read (t + 1)) → read_cause h v check (place t) ≡ None → all_causes h dump v loader check t ≡ Some (refusal_behind listed have d why)
+  by_told : (o : Option ℕ) → told h v (pages_read (t + 1)) ≡ o → listed ≡ told h v (pages_read (t + 1)) → read_cause h v check (place t) ≡ None → cause_at h dump v loader check t ≡ Some (refusal_behind listed have d why)
   by_told None e same none =
       with_room (read_cause h v check (place t)) (want_cause h dump v loader (place t)) (next_cause h v t) (reply_of why) (no_want_before h dump v loader t e) some
       ∙ ap (λ (o : Option ℕ). Some (refusal_behind o have d why)) (sym (same ∙ e))
@@ -498,7 +494,7 @@ refusal_is h dump v loader check t have d listed why some is before free count =
       behind_room h dump v loader check t have d n why some none (want_listed h dump v loader t before all ∙ room_is h dump v loader have d free (count n (same ∙ e)))
       ∙ ap (λ (o : Option ℕ). Some (refusal_behind o have d why)) (sym (same ∙ e))
 
-  by_read : (o : Option Reply) → read_cause h v check (place t) ≡ o → all_causes h dump v loader check t ≡ Some (refusal_behind listed have d why)
+  by_read : (o : Option Reply) → read_cause h v check (place t) ≡ o → cause_at h dump v loader check t ≡ Some (refusal_behind listed have d why)
   by_read None e = by_told (told h v (pages_read (t + 1))) refl (is ∙ ap (λ (o : Option Reply). cond (is_none o) (told h v (pages_read (t + 1))) (told h v (pages_read t))) e) e
   by_read (Some x) e =
       first_cause (read_cause h v check (place t)) (want_cause h dump v loader (place t)) (next_cause h v t) x (reply_of why) e some
@@ -518,15 +514,15 @@ refused_list_row machine frames load mid load' chain chain' result why r c hardw
     let a = subst (λ (x : ReadStep). AnswersFor h v (k - 4) x chain chain' load mid) refused (answers v (k - 4) knows.4 knows.1.reads) in
     let checks = (loader_of machine frames load c l k s).check in
     let free : length mid.waiting.free ≡ length (left_free h l.dump l.loader) = ap (λ (x : Load). length x.waiting.free) is ∙ ap length s.resume.free in
-    let causes : all_causes h l.dump v l.loader load.check (k - 4) ≡ Some r =
+    let causes : cause_at h l.dump v l.loader load.check (k - 4) ≡ Some r =
     refusal_is h l.dump v l.loader load.check (k - 4) (length mid.waiting.free) (length (with_data mid.origs.members mid.zeros.members)) chain'.reader.listed why a.0 a.1 knows.5 free
     (λ n listed. let sets = a.2 n listed in ap length (listed_data h v mid.origs.members mid.zeros.members sets.frames sets.marks sets.rising) ∙ sym (count_is h v))
     ∙ ap (λ (x : Reply). Some x) (sym reply) in
-    let cause : all_causes h l.dump v l.loader l.check (k - 4) ≡ Some r = subst (λ (x : IdentCheck). all_causes h l.dump v l.loader x (k - 4) ≡ Some r) checks causes in (
+    let cause : cause_at h l.dump v l.loader l.check (k - 4) ≡ Some r = subst (λ (x : IdentCheck). cause_at h l.dump v l.loader x (k - 4) ≡ Some r) checks causes in (
       off nothing None,
       leads machine frames load' r c c (loading l k) (off nothing None) (stopped_early machine frames c r (loading l k) (off nothing None) (cause_ends h l v (k - 4) r cause))
           (read_stop_row h (shown_by machine frames load) (shown_by machine frames load') c l v k r
           (record { hardware = hardware; late = late; within = knows.3; stands = s.stands; found = knows.1.found; gone_on = knows.2 })
-          (late_reply h l.dump v l.loader l.check k late ∙ ap (λ (o : Option Reply). unwrap_or o (reply_past h l.dump v l.loader (k - 4))) cause)
+          (late_reply h l.dump v l.loader l.check k late ∙ ap (λ (o : Option Reply). unwrap_or o (reply_past h l.dump v l.loader k)) cause)
           (cause_ends h l v (k - 4) r cause) (activity_is load' stage.Rest rest, refl)) tt,
     ))

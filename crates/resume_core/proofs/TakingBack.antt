@@ -11,6 +11,8 @@ use Rattle.plain_machine.specs.Machine.{Hardware, Memory, IsHardware, block_of_s
 use Rattle.plain_machine.specs.Chain.{header_of, blocks_of}
 use Rattle.sig_header.specs.AreaKind.{mark_of, area_kind}
 use Rattle.plain_machine.specs.UsableArea.{area_block}
+use Rattle.protocol_laws.specs.TraceAt.{reply_past}
+use Rattle.protocol_laws.proofs.TraceAt.{past_more}
 use Rattle.protocol_laws.specs.Rows.{IsSameArea}
 use Rattle.protocol_laws.proofs.Areas.{same_of_kinds}
 use Rattle.plain_machine.specs.State.{off, loading, nothing, perhaps, held_while_loading, Load as Resume}
@@ -84,7 +86,7 @@ back_row machine frames load found c c' hardware at whole whole' writes =
             knows = (
               knows.0,
               found_still machine found.header c c' l knows.0 (reads_after machine.hw knows.0 (taken_back found.header) c c' knows.1.reads (inl writes)) (same_swap_area machine.hw (disk.as_it_reads c) (disk.as_it_reads c') goes.area) knows.1,
-              gone_next machine.hw l knows.0 2 knows.2 refl,
+              gone_next machine.hw l knows.0 2 knows.2 (past_more machine.hw l.dump knows.0 l.loader 2 (omega arith)),
               knows.3,
               knows.4,
               knows.5,
@@ -129,7 +131,7 @@ opened_row machine frames load found r c c' hardware at whole syncs opens =
             knows = (
               v,
               found_still machine found.header c c' l v (reads_synced machine.hw v c c' knows.1.reads syncs) (same_swap_area machine.hw (disk.as_it_reads c) (disk.as_it_reads c') goes.area) knows.1,
-              gone_next machine.hw l v 3 knows.2 (ap (λ (o : Option Reply). unwrap_or o (reply.Loading 4)) opened_at.0),
+              gone_next machine.hw l v 3 knows.2 (ap (λ (o : Option Reply). unwrap_or o (reply_past machine.hw l.dump v l.loader 3)) opened_at.0 ∙ past_more machine.hw l.dump v l.loader 3 (let two = two_places (info_in machine.hw v).pages in omega arith)),
               (let two = two_places (info_in machine.hw v).pages in omega arith),
               subst (λ (zs : List ℕ). stream.HasReadPlaces machine.hw v load.check r 0 load.origs.members zs) (sym knows.4) (subst (λ (os : List ℕ). stream.HasReadPlaces machine.hw v load.check r 0 os []) (sym knows.3) (opened_at.1 load.check)),
               refl,

@@ -5,3 +5,4 @@ pub mod Refusals
 pub mod Placing
 pub mod Restored
 pub mod Row
+pub mod StepsLeft

@@ -6,8 +6,9 @@ use Rattle.definitions.specs.Zones.{top}
 use Rattle.page_restore.specs.Waiting.{Awaiting, waiting_pages}
 use Rattle.plain_machine.specs.Machine.{Memory}
 use Rattle.image_read.specs.Answers.{Reads, Answers, GoesOn}
-use Rattle.image_read.specs.Reading.{Reading}
+use Rattle.image_read.specs.Reading.{Reading, HasReadAll}
 use Rattle.image_read.specs.declared.reader.ReadStep.{ReadStep}
+use Rattle.image_read.specs.declared.reader.ReadStep.TheVariants.{Done}
 use Rattle.machine.specs.declared.machine.Machine.{Machine}
 use Rattle.resume_core.specs.Ready.{CanRead}
 use Rattle.resume_core.specs.Row.{HasReader}
@@ -51,5 +52,6 @@ pub record HasReadInPlace (machine : Machine) (frames : Memory) (load : Load) (c
   pub answers : (v : disk.DiskImage) (t : ℕ) → HasReader machine.hw v chain.reader load t →
       Reads machine.hw v content → Answers machine.hw v load.check t result chain.reader reader load'.origs.members
       load'.zeros.members page
-  pub goes_on : GoesOn result reader load'.origs.members load'.zeros.members
+  pub goes_on : GoesOn result chain.reader reader load'.origs.members load'.zeros.members
+  pub over : result ≡ Done → HasReadAll reader
   pub within : reader.blocks ≤ machine.blocks

@@ -18,6 +18,7 @@ use Rattle.plain_machine.specs.State.{State, off, on, booting, hibernating, undo
 use Rattle.plain_machine.specs.State.{Held, Load as Resume}
 use Rattle.plain_machine.specs.Stands.{Stands}
 use Rattle.plain_machine.specs.Trace.{info_in, place_count, header_cause, want_cause, place, data_frames, data_pages}
+use Rattle.plain_machine.specs.Trace.{cause_with}
 use Rattle.plain_machine.specs.declared.event.Event.{Event}
 use Rattle.plain_machine.specs.declared.event.Event.TheVariants as event
 use Rattle.plain_machine.specs.declared.event.Actor.TheVariants as actor
@@ -29,7 +30,7 @@ use Rattle.plain_machine.specs.declared.reply.Reply.TheVariants as reply
 use Rattle.image_read.specs.Answers.{Reads}
 use Rattle.image_read.specs.Reading.{Reading}
 use Rattle.image_read.specs.Stream as stream
-use Rattle.image_read.specs.Stream.{pages_read, told, step_cause}
+use Rattle.image_read.specs.Stream.{pages_read, told}
 use Rattle.protocol_laws.specs.LoadRows as load_rows
 use Rattle.protocol_laws.specs.LoadRows.{IsFoundIn, HaveGoneOn}
 use Rattle.protocol_laws.specs.Rows as rows
@@ -200,7 +201,7 @@ pub record HasRead (machine : Machine) (frames : Memory) (load : Load) (chain : 
   pub reading : load_rows.IsBeforeRead machine.hw shown c l v k
   pub loader : HasLoader machine.hw load l
   pub found : HasFound machine chain.header c l v
-  pub sound : step_cause machine.hw v l.check (k - 4) ≡ None
+  pub sound : cause_with machine.hw v l.check None (k - 4) ≡ None
   pub read : HasReader machine.hw v chain.reader load (k - 4 + 1)
   pub kept : (p : ℕ) → p < top machine.hw.zones → (Contains (left_free machine.hw l.dump l.loader) p → ⊥) →
       frame frames p ≡ loader_frame l.dump l.loader p

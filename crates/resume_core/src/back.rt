@@ -1,4 +1,4 @@
-ghost use Rattle.std.specs.Prelude.{◌≡◌, false, [], IfOk, IfErr, if◌then◌else◌};
+ghost use Rattle.std.specs.Prelude.{◌≡◌, ◌<◌, false, [], IfOk, IfErr, if◌then◌else◌};
 ghost use Rattle.image_read.specs.Reading.{IsReady};
 ghost use Rattle.plain_machine.specs.Trace.{is_set};
 ghost use Rattle.page_core.specs.declared.format.Format.TheVariants.{Plain, SkipZeros};
@@ -27,6 +27,7 @@ impl Load {
     ghost use Rattle.plain_machine.specs.declared.event.Actor.TheVariants as actor;
     ghost use Rattle.resume_core.specs.Loading.{activity_of, activity_told};
     ghost use Rattle.resume_core.specs.Ready.{CanStep, takes_back_at, syncs_back_at};
+    ghost use Rattle.resume_core.specs.StepsLeft.{loading_steps_left};
     ghost use Rattle.resume_core.specs.Row.{SimulatesWhereTold};
 
     /// Writes the header block taken back.
@@ -46,6 +47,7 @@ impl Load {
         ensures loader { self.new.loader ≡ self.old.loader }
         ensures works { is_idle result ≡ false }
         ensures ready { CanStep machine.now frames.now runs.now self.new }
+        ensures fewer { loading_steps_left self.new < loading_steps_left self.old }
         ensures called { Called D.Disk AtMostOneCall (TellsNewFault result) disk.old disk.new }
     {
         match replace(&mut self.stage, Stage::Rest) {
@@ -80,6 +82,7 @@ impl Load {
         ensures loader { self.new.loader ≡ self.old.loader }
         ensures works { is_idle result ≡ false }
         ensures ready { CanStep machine.now frames.now runs.now self.new }
+        ensures fewer { loading_steps_left self.new < loading_steps_left self.old }
         ensures called { Called D.Disk AtMostOneCall (TellsNewFault result) disk.old disk.new }
     {
         match disk.sync() {

@@ -28,6 +28,7 @@ impl Load {
     ghost use Rattle.resume_core.specs.Loading.{activity_of, activity_told};
     ghost use Rattle.resume_core.specs.Ready.{CanStep, IsSameMachine, reads_at};
     ghost use Rattle.resume_core.specs.declared.load.OpenChain.{OpenChain};
+    ghost use Rattle.resume_core.specs.StepsLeft.{loading_steps_left};
     ghost use Rattle.resume_core.specs.Row.{EndsOn};
 
     /// Brings the pages home. After a scripted loader the machine runs, where the tables fit it and the area; after a
@@ -47,6 +48,7 @@ impl Load {
         ensures loader { self.new.loader ≡ self.old.loader }
         ensures works { is_idle result ≡ false }
         ensures ready { CanStep machine.new frames.new runs.new self.new }
+        ensures ended { loading_steps_left self.new ≡ 0 }
         ensures machine { IsSameMachine machine.old machine.new }
         ensures no_fault { TellsNewFault result → ⊥ }
     {

@@ -24,6 +24,8 @@ impl Load {
     ghost use Rattle.resume_core.specs.Loading.{activity_of, activity_told};
     ghost use Rattle.resume_core.specs.Ready.{CanStep, IsSameMachine, lists_at};
     ghost use Rattle.resume_core.specs.declared.load.OpenChain.{OpenChain};
+    ghost use Rattle.image_read.specs.Reading.{places_left};
+    ghost use Rattle.resume_core.specs.StepsLeft.{loading_steps_left};
     ghost use Rattle.resume_core.specs.Row.{SimulatesWhereTold, ListsOn};
     ghost use Rattle.resume_core.specs.Refusals.{room_refusal, refusal_behind};
 
@@ -44,6 +46,7 @@ impl Load {
         ensures loader { self.new.loader ≡ self.old.loader }
         ensures works { is_idle result ≡ false }
         ensures ready { CanStep machine.new frames.new runs.new self.new }
+        ensures fewer { loading_steps_left self.new < loading_steps_left self.old }
         ensures machine { IsSameMachine machine.old machine.new }
         ensures called { Called D.Disk AtMostOneCall (TellsNewFault result) disk.old disk.new }
     {
@@ -61,12 +64,12 @@ impl Load {
                     let listed = chain.reader.listed();
                     self.refuse_listing(listed, cause)
                 }
-                ReadStep::More { .. } | ReadStep::Page { .. } | ReadStep::Done => {
-                    match chain.reader.listed() {
-                        None => chain.go_on(),
-                        Some(_) => self.begin_reads(machine, frames, runs),
-                    }
-                }
+                ReadStep::More { .. } | ReadStep::Page { .. } => match chain.reader.listed() {
+                    None => chain.go_on(),
+                    Some(_) => self.begin_reads(machine, frames, runs),
+                },
+                // Each number page was read by then.
+                ReadStep::Done => self.begin_reads(machine, frames, runs),
             },
             _ => unreachable!(),
         }
@@ -107,6 +110,8 @@ impl Load {
         ensures loader { self.new.loader ≡ self.old.loader }
         ensures works { is_idle result ≡ false }
         ensures ready { CanStep machine.new frames.new runs.new self.new }
+        ensures left { (chain : OpenChain) → self.old.stage ≡ stage.List chain →
+            loading_steps_left self.new ≤ places_left chain.reader + 1 }
         ensures machine { IsSameMachine machine.old machine.new }
         ensures no_fault { TellsNewFault result → ⊥ }
     {

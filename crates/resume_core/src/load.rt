@@ -74,6 +74,7 @@ impl Load {
     ghost use Rattle.resume_core.specs.declared.load.Stage.TheVariants as stage;
     ghost use Rattle.resume_core.specs.Loading.{activity_of, activity_told, FindsMark};
     ghost use Rattle.resume_core.specs.Ready.{CanStep, IsBusy, IsSameMachine};
+    ghost use Rattle.resume_core.specs.StepsLeft.{loading_steps_left};
     ghost use Rattle.resume_core.specs.Row.{SimulatesWhereTold};
 
     /// No resume, with the memory for every one of this machine.
@@ -117,6 +118,7 @@ impl Load {
         ensures loader { self.new.loader ≡ self.old.loader }
         ensures works { is_idle result ≡ false }
         ensures ready { CanStep machine.new frames.new runs.new self.new }
+        ensures fewer { loading_steps_left self.new < loading_steps_left self.old }
         ensures machine { IsSameMachine machine.old machine.new }
         ensures called { Called D.Disk AtMostOneCall (TellsNewFault result) disk.old disk.new }
     {

@@ -1,4 +1,4 @@
-ghost use Rattle.std.specs.Prelude.{◌≡◌, ◌<◌, ◌+◌, false, true, length};
+ghost use Rattle.std.specs.Prelude.{◌≡◌, ◌<◌, ◌≤◌, ◌+◌, false, true, length};
 ghost use Rattle.definitions.specs.Bytes.{IsPage};
 ghost use Rattle.image_read.specs.declared.reader.ReadStep.TheVariants as read_step;
 ghost use Rattle.protocol_laws.specs.Rows.{TellsNewFault, is_idle};
@@ -25,6 +25,8 @@ impl Load {
     ghost use Rattle.resume_core.specs.Ready.{CanStep, IsSameMachine, reads_at};
     ghost use Rattle.resume_core.specs.declared.load.OpenChain.{OpenChain};
     ghost use Rattle.resume_core.specs.Placing.{CanReadInPlace, HasReadInPlace};
+    ghost use Rattle.image_read.specs.Reading.{HasReadAll, places_left};
+    ghost use Rattle.resume_core.specs.StepsLeft.{loading_steps_left};
     ghost use Rattle.resume_core.specs.Row.{SimulatesWhereTold, ReadsOn};
 
     /// Reads the next map or saved page.
@@ -44,6 +46,7 @@ impl Load {
         ensures loader { self.new.loader ≡ self.old.loader }
         ensures works { is_idle result ≡ false }
         ensures ready { CanStep machine.new frames.new runs.new self.new }
+        ensures fewer { loading_steps_left self.new < loading_steps_left self.old }
         ensures machine { IsSameMachine machine.old machine.new }
         ensures called { Called D.Disk AtMostOneCall (TellsNewFault result) disk.old disk.new }
     {
@@ -119,6 +122,10 @@ impl Load {
         ensures loader { self.new.loader ≡ self.old.loader }
         ensures works { is_idle result ≡ false }
         ensures ready { CanStep machine.new frames.new runs.new self.new }
+        ensures left { (chain : OpenChain) → self.old.stage ≡ stage.Read chain →
+            loading_steps_left self.new ≤ places_left chain.reader + 1 }
+        ensures ended { (chain : OpenChain) → self.old.stage ≡ stage.Read chain → HasReadAll chain.reader →
+            loading_steps_left self.new ≡ 0 }
         ensures machine { IsSameMachine machine.old machine.new }
         ensures no_fault { TellsNewFault result → ⊥ }
     {

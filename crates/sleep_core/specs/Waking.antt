@@ -19,6 +19,16 @@ steps_before (stage.Write header) = 1
 steps_before stage.Sync = 2
 steps_before stage.Over = 3
 
+-- How many steps are left at most: each leaves fewer, whatever the disk tells.
+abbrev pub waking_steps_left_at : Stage → ℕ
+waking_steps_left_at stage.Read = 3
+waking_steps_left_at (stage.Write header) = 2
+waking_steps_left_at stage.Sync = 1
+waking_steps_left_at stage.Over = 0
+
+abbrev pub waking_steps_left : Waker → ℕ
+waking_steps_left waker = waking_steps_left_at waker.stage
+
 -- the header block that is kept between two calls of the disk, where one is
 abbrev pub header_at : Stage → List ℕ
 header_at (stage.Write header) = header

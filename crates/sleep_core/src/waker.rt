@@ -4,7 +4,7 @@ ghost use Rattle.definitions.specs.SwapHeader.{sig_of, image_signature};
 ghost use Rattle.plain_machine.specs.Machine.{IsHardware, block_of_slot};
 ghost use Rattle.protocol_laws.specs.Rows.{TellsNewFault};
 ghost use Rattle.protocol_laws.specs.Settling.{unmarked_block};
-ghost use Rattle.sleep_core.specs.Waking.{is_over, is_last, IsReplyAt};
+ghost use Rattle.sleep_core.specs.Waking.{is_over, is_last, IsReplyAt, waking_steps_left};
 ghost use Rattle.sleep_core.specs.Row.{SimulatesWhereTold, IsBegun};
 ghost use Rattle.sector_disk.specs.Called.{Called, OneCall};
 
@@ -58,6 +58,7 @@ impl Waker {
             (D.content disk.new) }
         ensures reply { IsReplyAt self.old.stage result }
         ensures finished { is_over self.new ≡ is_last result }
+        ensures fewer { waking_steps_left self.new < waking_steps_left self.old }
         ensures called { Called D.Disk OneCall (TellsNewFault result) disk.old disk.new }
     {
         match self.stage {
@@ -77,6 +78,7 @@ impl Waker {
             (D.content disk.new) }
         ensures reply { IsReplyAt stage.Read result }
         ensures finished { is_over self.new ≡ is_last result }
+        ensures fewer { waking_steps_left self.new < waking_steps_left self.old }
         ensures called { Called D.Disk OneCall (TellsNewFault result) disk.old disk.new }
     {
         // Only what is read is known to have the size of its type.
@@ -106,6 +108,7 @@ impl Waker {
             (D.content disk.new) }
         ensures reply { IsReplyAt self.old.stage result }
         ensures finished { is_over self.new ≡ is_last result }
+        ensures fewer { waking_steps_left self.new < waking_steps_left self.old }
         ensures called { Called D.Disk OneCall (TellsNewFault result) disk.old disk.new }
     {
         let _blocks = machine.blocks;
@@ -135,6 +138,7 @@ impl Waker {
             (D.content disk.new) }
         ensures reply { IsReplyAt stage.Sync result }
         ensures finished { is_over self.new ≡ is_last result }
+        ensures fewer { waking_steps_left self.new < waking_steps_left self.old }
         ensures called { Called D.Disk OneCall (TellsNewFault result) disk.old disk.new }
     {
         self.stage = Stage::Over;

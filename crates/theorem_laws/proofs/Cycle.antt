@@ -131,7 +131,7 @@ module _ {X Y : Type 0} (D : Ghosts X) (E : Ghosts Y) (before between : X) (agai
     (second : HasLoaded E again after check y y' status' loader resumed') (found : E.content again ≡ Some (disk.settled w)) (same : loader.hw ≡ saved.hw) (unfailed : resumed'.failed ≡ false)
     (room : HasRoomFor loader.hw loader.memory (image_to_save loader.hw (machine_to_save loader.hw saved.memory size v) f)) where
   has_saved : HasHibernated saved.hw (machine_to_save saved.hw saved.memory size v) f v ended (D.content between)
-  has_saved = has_hibernated D saved.hw saved.memory v f size ended first.ran.0 first.ran.1 first.shown before between (first.ran.3.over v was original) first.machine.zones first.ran.2
+  has_saved = has_hibernated D saved.hw saved.memory v f size ended first.ran.0 first.ran.1 first.shown before between (first.ran.3.over v was original) first.ran.2
 
   holds_image : Holds saved.hw w (image_to_save saved.hw (machine_to_save saved.hw saved.memory size v) f) × IsOwn saved.hw w (image_to_save saved.hw (machine_to_save saved.hw saved.memory size v) f)
   holds_image =
@@ -149,7 +149,7 @@ module _ {X Y : Type 0} (D : Ghosts X) (E : Ghosts Y) (before between : X) (agai
       let images = subst (λ (g : Hardware). Holds g w (image_to_save g (machine_to_save g saved.memory size v) f) × IsOwn g w (image_to_save g (machine_to_save g saved.memory size v) f)) (sym same) holds_image in
       let has_original = subst (λ (g : Hardware). HasOriginal g w) (sym same) original_there in
       let over = second.ran.3.over w found (λ marked. has_original) in
-      let is = has_resumed E h loader.memory w check resumed' second.ran.0 second.ran.1 second.shown again after over second.ran.2 second.machine.zones in
+      let is = has_resumed E h loader.memory w check resumed' second.ran.0 second.ran.1 second.shown again after over second.ran.2 in
       let answer = answers h w i loader.memory check second.machine images.0 images.1 room second.shown.frames resumed' (E.content after) is unfailed in
       let count : n ≡ n_of i = subst (λ (g : Hardware). n ≡ n_of (image_to_save g (machine_to_save g saved.memory size v) f)) (sym same) (counted saved.hw (machine_to_save saved.hw saved.memory size v) f n ended v (D.content between) has_saved hibernated) in
       let taken = resumption_taken E h loader.memory w check resumed' second.ran.0 second.ran.1 second.shown again after over second.ran.2 is.content is.told in (

@@ -20,7 +20,6 @@ use Rattle.run_laws.proofs.AtomicCopy.{all_restore}
 use Rattle.run_laws.proofs.Once.{resumed_once}
 use Rattle.run_laws.proofs.Sleeps.{never_both}
 use Rattle.world_runs.specs.Turns.{steps_of}
-use Rattle.command_core.proofs.Runs.{hibernation_few, resumption_few}
 use Rattle.swsusp_cli.specs.Drills as drills
 use Rattle.swsusp_cli.specs.Drills.{IsDrilled}
 use Rattle.swsusp_cli.specs.Dumps.{HasAnswered}
@@ -83,17 +82,4 @@ few_calls_of_drill number x x' status few (drills.unformatted call is) = until_f
 few_calls_of_drill number x x' status few (drills.summed is) =
     let steps = steps_few (drill_events number) 100000 few in
     let calls = is.are.calls in
-    omega arith
-
--- by a hibernation, and by a resume, at most once for each step of its run
-pub few_calls_of_hibernation : {X : Type 0} (D : Ghosts X) (before after : X) (f : Format) (size : Option ℕ) (x x' : View) (status : Status) (dump : DumpValue) (ended : Ended) → HasAnswered D before after f size x x' status dump ended → D.calls after ≤ D.calls before + 66002
-few_calls_of_hibernation D before after f size x x' status dump ended is =
-    let few = hibernation_few f size ended is.ran.0 is.ran.1 is.ran.2 in
-    let calls = is.ran.3.calls in
-    omega arith
-
-pub few_calls_of_resume : {X : Type 0} (D : Ghosts X) (before after : X) (check : IdentCheck) (x x' : View) (status : Status) (dump : DumpValue) (ended : Ended) → HasLoaded D before after check x x' status dump ended → D.calls after ≤ D.calls before + 66000
-few_calls_of_resume D before after check x x' status dump ended is =
-    let few = resumption_few check ended is.ran.0 is.ran.1 is.ran.2 in
-    let calls = is.ran.3.calls in
     omega arith

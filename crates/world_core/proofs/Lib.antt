@@ -11,3 +11,4 @@ pub mod CacheDrops
 pub mod TaskRows
 pub mod Wakes
 pub mod Readiness
+pub mod StepsLeft

@@ -3,4 +3,5 @@ pub mod Orders
 pub mod Row
 pub mod StandsFor
 pub mod Started
+pub mod StepsLeft
 pub mod World

@@ -21,7 +21,7 @@ use Rattle.world_core.specs.World.{World}
 use Rattle.machine.specs.TaskRow.{IsRefusal}
 use Rattle.hib_core.specs.Begin.{IsRefusedWith}
 use Rattle.hib_core.specs.Leaving.{KeepsUsed, stays, gives, change_of}
-use Rattle.world_core.specs.StandsFor.{hardware_of, StandsFor, IsOff}
+use Rattle.world_core.specs.StandsFor.{hardware_of, StandsFor}
 
 -- what the state goes on to
 abbrev pub GoesOn : Event → World → World → Reply → disk.Content → disk.Content → State → State → Type 0
@@ -107,13 +107,6 @@ pub record ChangesNothing (old new : World) : Type 0 where
   pub machine : new.machine ≡ old.machine
   pub frames : new.frames ≡ old.frames
   pub core : new.core ≡ old.core
-
--- A step of a resume that neither goes on nor ends it, since the image was refused or a call failed, leaves the machine
--- off.
-abbrev pub StopsOff : Event → World → Reply → World → Type 0
-StopsOff (event.Step actor.Core) old r new =
-    old.core ≡ Loading → ((k : ℕ) → r ≢ reply.Loading k) → ((n : ℕ) → r ≢ reply.Resumed n) → IsOff new
-StopsOff _ old r new = ⊤
 
 -- What a step of a hibernation or a settling leaves of the page frames: those that aren't free stay, the slot table
 -- included but for the image's slots. Where it ends with nothing held these are given back, and where an image may be

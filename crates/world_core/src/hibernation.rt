@@ -1,4 +1,4 @@
-ghost use Rattle.std.specs.Prelude.{◌≡◌, ◌≢◌};
+ghost use Rattle.std.specs.Prelude.{◌≡◌, ◌≢◌, ◌<◌};
 ghost use Rattle.world_core.specs.StandsFor.{core_told};
 ghost use Rattle.sector_disk.specs.Called.{Called};
 
@@ -18,6 +18,7 @@ impl World {
     ghost use Rattle.hib_core.specs.Row.{event_of};
     ghost use Rattle.world_core.specs.declared.world.Core.TheVariants as core;
     ghost use Rattle.world_core.specs.StandsFor.{hardware_of, blocks_of, IsOff};
+    ghost use Rattle.world_core.specs.StepsLeft.{steps_left};
     ghost use Rattle.world_core.specs.Row.{SimulatesWhereTold, Simulates, CallsAtMostOnce, IsRefused, ChangesNothing};
     ghost use Rattle.world_core.specs.Row.{Restores, TellsImage, KeepsUsedFrames};
     ghost use Rattle.hib_core.specs.Leaving.{KeepsUsed};
@@ -74,6 +75,7 @@ impl World {
             (D.content disk.new) }
         ensures image { TellsImage (event.Step actor.Core) self.old result (D.content disk.old) }
         ensures works { result ≢ reply.Idle }
+        ensures fewer { steps_left self.new < steps_left self.old }
         ensures called { Called D.Disk (CallsAtMostOnce (event.Step actor.Core) result) (TellsNewFault result)
             disk.old disk.new }
         ensures hardware { hardware_of self.new ≡ hardware_of self.old }

@@ -1,4 +1,4 @@
-ghost use Rattle.std.specs.Prelude.{◌≡◌, ◌≢◌, ℕ, ◌⊎◌, true};
+ghost use Rattle.std.specs.Prelude.{◌≡◌, ◌≢◌, ◌<◌, ◌≤◌, ℕ, ◌⊎◌, true};
 ghost use Rattle.plain_machine.specs.Refusals.{asks_dump_to_load};
 ghost use Rattle.world_core.specs.StandsFor.{core_resumed, is_off};
 ghost use Rattle.sector_disk.specs.Called.{Called};
@@ -17,6 +17,7 @@ impl World {
     ghost use Rattle.world_core.specs.declared.world.Core.TheVariants as core;
     ghost use Rattle.world_core.specs.StandsFor.{hardware_of, blocks_of, IsOff, keeps_dump};
     ghost use Rattle.plain_machine.specs.declared.reply.Reply.TheVariants as reply;
+    ghost use Rattle.world_core.specs.StepsLeft.{Ends, steps_left};
     ghost use Rattle.world_core.specs.Row.{SimulatesWhereTold, Simulates, CallsAtMostOnce, IsRefused, ChangesNothing};
     ghost use Rattle.world_core.specs.Row.{Restores, TellsImage, blocks_after};
 
@@ -30,6 +31,7 @@ impl World {
         ensures kept { blocks_of self.new ≡ blocks_after (event.Resume loader check) result blocks
             (blocks_of self.old) }
         ensures refused { IsRefused (event.Resume loader check) self.old result → ChangesNothing self.old self.new }
+        ensures ends { Ends (event.Resume loader check) self.old result self.new }
     {
         if !self.is_off() {
             return Reply::NotOff;
@@ -49,6 +51,7 @@ impl World {
         ensures hardware { hardware_of self.new ≡ hardware_of self.old }
         ensures blocks { blocks_of self.new ≡ blocks }
         ensures reply { result ≡ reply.Loading 0 }
+        ensures few { steps_left self.new ≤ 65800 }
     {
         self.machine.blocks = blocks;
         let reply = self
@@ -68,6 +71,7 @@ impl World {
             (D.content disk.new) }
         ensures image { TellsImage (event.Step actor.Core) self.old result (D.content disk.old) }
         ensures works { result ≢ reply.Idle }
+        ensures fewer { steps_left self.new < steps_left self.old }
         ensures stopped { ((k : ℕ) → result ≢ reply.Loading k) → ((n : ℕ) → result ≢ reply.Resumed n) → IsOff self.new }
         ensures called { Called D.Disk (CallsAtMostOnce (event.Step actor.Core) result) (TellsNewFault result)
             disk.old disk.new }

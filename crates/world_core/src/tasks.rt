@@ -20,7 +20,8 @@ impl World {
     ghost use Rattle.world_core.specs.declared.world.Core.TheVariants as core;
     ghost use Rattle.world_core.specs.StandsFor.{hardware_of, blocks_of, IsOff, IsBusyIn};
     ghost use Rattle.world_core.specs.Row.{SimulatesWhereTold, Simulates, CallsAtMostOnce, IsRefused, ChangesNothing};
-    ghost use Rattle.world_core.specs.Row.{StopsOff, Restores, TellsImage};
+    ghost use Rattle.world_core.specs.Row.{Restores, TellsImage};
+    ghost use Rattle.world_core.specs.StepsLeft.{Ends};
 
     /// What a task asks for: it is refused where the machine doesn't run.
     pub(crate) fn task(&mut self, t: u32, op: TaskOp) -> Reply
@@ -77,7 +78,7 @@ impl World {
         ensures blocks { blocks_of self.new ≡ blocks_of self.old }
         ensures off { IsOff self.old → IsOff self.new }
         ensures refused { IsRefused (event.Step (actor.Task t)) self.old result → ChangesNothing self.old self.new }
-        ensures stopped { StopsOff (event.Step (actor.Task t)) self.old result self.new }
+        ensures ends { Ends (event.Step (actor.Task t)) self.old result self.new }
     {
         if !self.is_running() {
             return Reply::Idle;

@@ -1,4 +1,4 @@
-ghost use Rattle.std.specs.Prelude.{◌≡◌, ◌≢◌, length};
+ghost use Rattle.std.specs.Prelude.{◌≡◌, ◌≢◌, ◌<◌, length};
 ghost use Rattle.machine.specs.Running.{slot_table_of};
 ghost use Rattle.sleep_core.specs.Row.{IsLeft};
 ghost use Rattle.swap_slots.specs.Table.{LiesIn, Matches};
@@ -24,6 +24,7 @@ impl World {
     ghost use Rattle.protocol_laws.specs.Rows.{TellsNewFault};
     ghost use Rattle.world_core.specs.declared.world.Core.TheVariants as core;
     ghost use Rattle.world_core.specs.StandsFor.{hardware_of, blocks_of, IsOff};
+    ghost use Rattle.world_core.specs.StepsLeft.{steps_left};
     ghost use Rattle.world_core.specs.Row.{SimulatesWhereTold, Simulates, CallsAtMostOnce, IsRefused, ChangesNothing};
     ghost use Rattle.world_core.specs.Row.{Restores, TellsImage, WakesWith};
 
@@ -64,6 +65,7 @@ impl World {
             (D.content disk.new) }
         ensures image { TellsImage (event.Step actor.Core) self.old result (D.content disk.old) }
         ensures works { result ≢ reply.Idle }
+        ensures fewer { steps_left self.new < steps_left self.old }
         ensures called { Called D.Disk (CallsAtMostOnce (event.Step actor.Core) result) (TellsNewFault result)
             disk.old disk.new }
         ensures hardware { hardware_of self.new ≡ hardware_of self.old }

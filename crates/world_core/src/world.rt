@@ -72,7 +72,7 @@ impl World {
     ghost use Rattle.world_core.specs.declared.world.Core.TheVariants as core;
     ghost use Rattle.world_core.specs.StandsFor.{StandsFor, hardware_of, blocks_of, IsOff, IsNewWorld, IsKeptDump};
     ghost use Rattle.world_core.specs.Row.{SimulatesWhereTold, CallsAtMostOnce, IsNoCut, IsRefused, ChangesNothing};
-    ghost use Rattle.world_core.specs.Row.{StopsOff};
+    ghost use Rattle.world_core.specs.StepsLeft.{Ends};
     ghost use Rattle.world_core.specs.Row.{LeavesMemory, RestartsAt, blocks_after, Restores, TellsImage};
     ghost use Rattle.world_core.specs.Orders.{orders_after};
 
@@ -177,7 +177,7 @@ impl World {
         ensures blocks { IsOff self.new ⊎ (D.block_count disk.new ≡ blocks_of self.new) }
         ensures kept { blocks_of self.new ≡ blocks_after event result (D.block_count disk.old) (blocks_of self.old) }
         ensures refused { IsRefused event self.old result → ChangesNothing self.old self.new }
-        ensures stopped { StopsOff event self.old result self.new }
+        ensures ends { Ends event self.old result self.new }
         ensures memory { LeavesMemory event self.old result self.new }
     {
         match event {
@@ -210,7 +210,7 @@ impl World {
         ensures blocks { blocks_of self.new ≡ blocks_of self.old }
         ensures off { IsOff self.old → IsOff self.new }
         ensures refused { IsRefused (event.Step actor) self.old result → ChangesNothing self.old self.new }
-        ensures stopped { StopsOff (event.Step actor) self.old result self.new }
+        ensures ends { Ends (event.Step actor) self.old result self.new }
         ensures memory { LeavesMemory (event.Step actor) self.old result self.new }
     {
         match actor {
@@ -232,7 +232,7 @@ impl World {
         ensures blocks { blocks_of self.new ≡ blocks_of self.old }
         ensures off { IsOff self.old → IsOff self.new }
         ensures refused { IsRefused (event.Step actor.Core) self.old result → ChangesNothing self.old self.new }
-        ensures stopped { StopsOff (event.Step actor.Core) self.old result self.new }
+        ensures ends { Ends (event.Step actor.Core) self.old result self.new }
         ensures memory { LeavesMemory (event.Step actor.Core) self.old result self.new }
     {
         match self.core {

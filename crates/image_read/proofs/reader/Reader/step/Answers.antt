@@ -1,12 +1,12 @@
-use Rattle.std.proofs.Common.{◌≡◌, ◌<◌, ℕ, Option, Some, None, Result, Ok, Err, sym, ap, ◌∙◌, subst}
+use Rattle.std.proofs.Common.{◌≡◌, ◌<◌, ◌+◌, ℕ, Option, Some, None, Result, Ok, Err, IfOk, sym, ap, ◌∙◌, subst}
 use Rattle.definitions.specs.Disk as disk
 use Rattle.plain_machine.specs.Trace.{place, place_count}
-use Rattle.image_read.specs.Reading.{Reading}
+use Rattle.image_read.specs.Reading.{Reading, IsReady, IsShort}
 use Rattle.image_read.specs.Stream.{place_block}
-use Rattle.image_read.specs.Answers.{Answers, Gives}
+use Rattle.image_read.specs.Answers.{Answers, Gives, GoesOn}
 use Rattle.image_read.specs.declared.cause.Cause.{Cause}
 use Rattle.image_read.specs.declared.reader.ReadStep.{ReadStep}
-use Rattle.image_read.proofs.Steps.{read_as, answers_page, answers_more, on_ok, not_over, at_block}
+use Rattle.image_read.proofs.Steps.{read_as, answers_page, answers_more, goes_on_page, goes_on_more, on_ok, not_over, at_block}
 use Rattle.image_read.proofs.reader.Reader.step.Goals as goal
 use Rattle.image_read.proofs.reader.Reader.step.Goals.{in-Ok-Some, in-Ok-None, in-Err}
 
@@ -35,4 +35,26 @@ returns-clause-answers g c = λ h v check t reading reads zones_is compares.
       | in-Err w ↦
           let here : Gives h v check t (Err w.in-Err.cause) new new_origs new_zeros = subst (λ (x : Result (Option ℕ) Cause). Gives h v check t x new new_origs new_zeros) w.in-Err.is gives in
           subst (λ (s : ReadStep). Answers h v check t s r new new_origs new_zeros into) (sym w.result-is) here
+    ]
+
+pub returns-clause-goes_on : goal.returns-clause-goes_on
+returns-clause-goes_on g c =
+    let r = c.args.self.now in
+    let origs = c.args.origs.now.members in
+    let zeros = c.args.zeros.now.members in
+    let new = c.take.new.self in
+    let new_origs = c.take.new.origs.members in
+    let new_zeros = c.take.new.zeros.members in
+    let more : r.steps < place_count r.pages = not_over r origs zeros c.over.result c.requires.ready c.if-over.false c.over.ensures.over.1 in
+    let short : IsShort r.pages = subst (λ (x : Reading). IsShort x.pages) c.self.view_is c.self.invariant in
+    elim c.match-take.branch [
+      | in-Ok-Some w ↦
+          let ready = subst (λ (x : Result (Option ℕ) Cause). IfOk x (λ frame. IsReady new new_origs new_zeros)) w.in-Ok-Some.is c.take.ensures.ready in
+          let counted = subst (λ (x : Result (Option ℕ) Cause). IfOk x (λ frame. new.steps ≡ r.steps + 1)) w.in-Ok-Some.is c.take.ensures.counted in
+          subst (λ (s : ReadStep). GoesOn s r new new_origs new_zeros) (sym w.result-is) (goes_on_page w.in-Ok-Some.pfn r new new_origs new_zeros more short ready counted)
+      | in-Ok-None w ↦
+          let ready = subst (λ (x : Result (Option ℕ) Cause). IfOk x (λ frame. IsReady new new_origs new_zeros)) w.in-Ok-None.is c.take.ensures.ready in
+          let counted = subst (λ (x : Result (Option ℕ) Cause). IfOk x (λ frame. new.steps ≡ r.steps + 1)) w.in-Ok-None.is c.take.ensures.counted in
+          subst (λ (s : ReadStep). GoesOn s r new new_origs new_zeros) (sym w.result-is) (goes_on_more c.self-2.inside.steps r new new_origs new_zeros more short ready counted)
+      | in-Err w ↦ subst (λ (s : ReadStep). GoesOn s r new new_origs new_zeros) (sym w.result-is) tt
     ]

@@ -2,7 +2,7 @@ use Rattle.std.proofs.Common.{◌<◌, ℕ, Option, Result, Err, sym, ap, ◌∙
 use Rattle.std.proofs.lemmas.Result.{err_from_is_err_and}
 use Rattle.image_read.specs.Answers.{Gives}
 use Rattle.image_read.specs.declared.cause.Cause.{Cause}
-use Rattle.image_read.proofs.Ready.{taken, ready_after}
+use Rattle.image_read.proofs.Ready.{taken, ready_after, step_counted}
 use Rattle.image_read.proofs.Gives.{Over, was_taken, gives_refused, gives_next_refused, gives_on}
 use Rattle.image_read.proofs.reader.Reader.take.Goals as goal
 
@@ -16,6 +16,12 @@ returns-clause-ready c =
     let old = c.requires.ready.block in
     let below : new.block < new.blocks = omega arith in
     ready_after new r c.advance.new.self c.accept.new.origs.members c.accept.new.zeros.members _ took c.in_ok-pfn.ensures.saved c.in_ok-advance.ensures.advances (c.in_ok-advance.ensures.block below)
+
+pub returns-clause-counted : goal.returns-clause-counted
+returns-clause-counted c =
+    let r = c.args.self.now in
+    let took = taken _ c.args.expected.now.zones.now c.args.page.now r c.args.origs.now.members c.args.zeros.now.members c.in_ok-pfn.pfn c.accept.new.self c.accept.new.origs.members c.accept.new.zeros.members c.requires.ready c.requires.more c.in_ok-pfn.ensures.takes in
+    step_counted c.accept.new.self r c.advance.new.self _ took.steps c.in_ok-advance.ensures.advances
 
 pub returns-in_err-pfn-clause-gives : goal.returns-in_err-pfn-clause-gives
 returns-in_err-pfn-clause-gives c = λ h v check t reading page_is zones_is compares.

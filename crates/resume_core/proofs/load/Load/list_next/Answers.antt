@@ -1,4 +1,4 @@
-use Rattle.std.proofs.Common.{◌≡◌, length, ℕ, Option, IsSome, refl, sym, ap, ◌∙◌, subst}
+use Rattle.std.proofs.Common.{◌≡◌, arith, length, ℕ, Option, IsSome, refl, sym, ap, ◌∙◌, subst}
 use Rattle.plain_machine.specs.declared.reply.Reply.TheVariants as reply
 use Rattle.plain_machine.specs.declared.reply.Left.TheVariants.{Gone}
 use Rattle.image_read.specs.Answers.{Reads}
@@ -8,12 +8,14 @@ use Rattle.sector_disk.specs.Called.{AtMostOneCall}
 use Rattle.sector_disk.proofs.Called.{fails_as}
 use Rattle.page_restore.specs.Waiting.{with_data}
 use Rattle.resume_core.specs.Refusals.{refusal_behind}
+use Rattle.image_read.specs.Reading.{places_left}
+use Rattle.resume_core.specs.StepsLeft.{loading_steps_left_at}
 use Rattle.resume_core.specs.declared.load.Load.{Load}
 use Rattle.resume_core.specs.declared.load.OpenChain.{OpenChain}
 use Rattle.resume_core.specs.declared.load.Stage.TheVariants as stage
 use Rattle.resume_core.proofs.Facts.{row_of}
 use Rattle.resume_core.proofs.Finding.{activity_is}
-use Rattle.resume_core.proofs.Listing.{read_failed_row, at_list, listed_on, list_can, lists_row_of, may_go_on, more_row}
+use Rattle.resume_core.proofs.Listing.{read_failed_row, at_list, listed_on, list_can, lists_row_of, may_go_on, more_row, no_cause, over_list_row, place_less}
 use Rattle.resume_core.proofs.Placing.{refused_list_row}
 use Rattle.resume_core.proofs.load.Load.list_next.Goals as goal
 use Rattle.protocol_laws.proofs.Told.{content_of}
@@ -47,11 +49,11 @@ returns-in-None-clause-row g c = λ k told.
     let chain' = record c.in-List.chain { reader = c.step.new.self } in
     let mid = record load { stage = stage.List chain'; origs = c.step.new.origs; zeros = c.step.new.zeros; page = c.step.new.page } in
     let end = record mid { stage = stage.List c.go_on.new.self } in
-    let ready = may_go_on c.step.result c.step.new.self c.step.new.origs.members c.step.new.zeros.members c.in-More.is c.step.ensures.goes_on in (
+    let ready = may_go_on c.step.result c.in-List.chain.reader c.step.new.self c.step.new.origs.members c.step.new.zeros.members (no_cause c.step.result c.in-More.is) c.step.ensures.goes_on in (
       k,
       c.step.ensures.content ∙ told,
       listed_on c.args.machine.now c.args.frames.now load mid c.in-List.chain chain' c.args.machine.now c.args.frames.now end c.step.result c.go_on.result k
-          c.requires.ready.over.hardware c.in-List.is (list_can c.args.machine.now c.args.frames.now c.args.runs.now load c.in-List.chain c.in-List.is c.requires.ready).1 refl whole refl refl c.in-More.is
+          c.requires.ready.over.hardware c.in-List.is (list_can c.args.machine.now c.args.frames.now c.args.runs.now load c.in-List.chain c.in-List.is c.requires.ready).1 refl whole refl refl (no_cause c.step.result c.in-More.is)
           (λ v t has reads. c.step.ensures.answers c.args.machine.now.hw v load.check t has (subst (Reads c.args.machine.now.hw v) (sym told) reads) c.expected_of-expected.ensures.zones c.expected_of-expected.ensures.ident)
           (lists_row_of c.args.machine.now c.args.frames.now mid chain' c.args.machine.now c.args.frames.now (record mid { stage = stage.List (record chain' { done = c.go_on.new.self.done }) }) end
           (reply.Loading c.go_on.new.self.done) c.go_on.result (ap (λ (x : OpenChain). record mid { stage = stage.List x }) c.go_on.ensures.chain) c.go_on.ensures.reply
@@ -68,7 +70,7 @@ returns-in-Some g c = record {
         k,
         c.step.ensures.content ∙ told,
         listed_on c.args.machine.now c.args.frames.now load mid c.in-List.chain chain' c.begin_reads.new.machine c.begin_reads.new.frames c.begin_reads.new.self c.step.result c.begin_reads.result k
-            c.requires.ready.over.hardware c.in-List.is (list_can c.args.machine.now c.args.frames.now c.args.runs.now load c.in-List.chain c.in-List.is c.requires.ready).1 c.begin_reads.ensures.machine.hw whole refl refl c.in-More.is
+            c.requires.ready.over.hardware c.in-List.is (list_can c.args.machine.now c.args.frames.now c.args.runs.now load c.in-List.chain c.in-List.is c.requires.ready).1 c.begin_reads.ensures.machine.hw whole refl refl (no_cause c.step.result c.in-More.is)
             (λ v t has reads. c.step.ensures.answers c.args.machine.now.hw v load.check t has (subst (Reads c.args.machine.now.hw v) (sym told) reads) c.expected_of-expected.ensures.zones c.expected_of-expected.ensures.ident)
             (c.begin_reads.ensures.row chain' refl (subst IsSome (sym c.in-Some.is ∙ c.listed.ensures) refl)),
       );
@@ -76,7 +78,26 @@ returns-in-Some g c = record {
   loader = c.begin_reads.ensures.loader;
   works = c.begin_reads.ensures.works;
   ready = c.begin_reads.ensures.ready;
+  fewer =
+      let less = place_less c.step.result c.in-List.chain.reader c.step.new.self c.step.new.origs.members c.step.new.zeros.members c.in-More.is c.step.ensures.goes_on in
+      let left = c.begin_reads.ensures.left (record c.in-List.chain { reader = c.step.new.self }) refl in
+      let was = ap loading_steps_left_at c.in-List.is in
+      omega arith;
   machine = c.begin_reads.ensures.machine;
   called = fails_as g.D.Disk AtMostOneCall (c.step.result ≡ read_step.Fault) (TellsNewFault c.begin_reads.result) c.args.disk.now c.step.new.disk
       (λ fault. absurd (c.begin_reads.ensures.no_fault fault)) c.step.ensures.called;
 }
+
+pub returns-in-None-clause-fewer : goal.returns-in-None-clause-fewer
+returns-in-None-clause-fewer g c =
+    let less = place_less c.step.result c.in-List.chain.reader c.step.new.self c.step.new.origs.members c.step.new.zeros.members c.in-More.is c.step.ensures.goes_on in
+    let was = ap loading_steps_left_at c.in-List.is in
+    let same = ap (λ (x : OpenChain). places_left x.reader) c.go_on.ensures.chain in
+    omega arith
+
+pub returns-in-Done-clause-row : goal.returns-in-Done-clause-row
+returns-in-Done-clause-row g c = λ k told. (
+  k,
+  c.step.ensures.content ∙ told,
+  over_list_row c.args.machine.now c.args.frames.now c.args.self.now c.in-List.chain c.begin_reads-in-Done.new.machine c.begin_reads-in-Done.new.frames c.begin_reads-in-Done.new.self c.begin_reads-in-Done.result k c.in-List.is (c.step.ensures.done.0 c.in-Done.is),
+)

@@ -5,11 +5,12 @@ use Rattle.image_read.specs.Causes.{reply_of}
 use Rattle.page_restore.specs.Waiting.{Awaiting, waiting_pages}
 use Rattle.plain_machine.specs.declared.reply.Reply.TheVariants as reply
 use Rattle.plain_machine.specs.declared.reply.Left.TheVariants.{Gone}
+use Rattle.resume_core.specs.StepsLeft.{loading_steps_left_at}
 use Rattle.resume_core.specs.declared.load.Load.{Load}
 use Rattle.resume_core.specs.declared.load.Stage.TheVariants as stage
 use Rattle.resume_core.proofs.Facts.{row_of}
 use Rattle.resume_core.proofs.Finding.{activity_is}
-use Rattle.resume_core.proofs.Listing.{read_failed_row, at_read}
+use Rattle.resume_core.proofs.Listing.{read_failed_row, at_read, place_less}
 use Rattle.resume_core.proofs.Placing.{read_can, reads_pages, can_go_on, now_reads, refused_row, read_on_row, KeepsPlaces, map_keeps, page_keeps, no_page}
 use Rattle.resume_core.proofs.load.Load.read_next.Goals as goal
 use Rattle.protocol_laws.proofs.Told.{content_of}
@@ -128,3 +129,28 @@ returns-in-More-clause-row g c = λ k told.
           (map_keeps c.args.machine.now.hw c.args.frames.now frames' load.waiting read.chain chain' load mid c.read_in_place.result c.in-More.is read.puts.before))
           (c.read_on-in-More.ensures.row chain' read.stays),
     )
+
+pub returns-in-Page-clause-fewer : goal.returns-in-Page-clause-fewer
+returns-in-Page-clause-fewer g c =
+    let read = c.read_in_place.ensures.read in
+    let load' = c.read_in_place.new.self in
+    let less = place_less c.read_in_place.result read.chain.reader read.reader load'.origs.members load'.zeros.members (inr (c.in-Page.pfn, c.in-Page.is)) read.goes_on in
+    let left = c.read_on.ensures.left (record read.chain { reader = read.reader }) read.stays in
+    let was = ap loading_steps_left_at read.was in
+    omega arith
+
+pub returns-in-More-clause-fewer : goal.returns-in-More-clause-fewer
+returns-in-More-clause-fewer g c =
+    let read = c.read_in_place.ensures.read in
+    let load' = c.read_in_place.new.self in
+    let chain' = record read.chain { reader = read.reader } in
+    let was = ap loading_steps_left_at read.was in
+    elim c.in-More.is [
+      | inl more ↦
+          let less = place_less c.read_in_place.result read.chain.reader read.reader load'.origs.members load'.zeros.members (inl more) read.goes_on in
+          let left = c.read_on-in-More.ensures.left chain' read.stays in
+          omega arith
+      | inr done ↦
+          let none = c.read_on-in-More.ensures.ended chain' read.stays (read.over done) in
+          omega arith
+    ]

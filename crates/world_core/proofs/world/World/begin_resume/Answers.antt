@@ -1,4 +1,4 @@
-use Rattle.std.proofs.Common.{refl, sym, ap, ◌∙◌, subst}
+use Rattle.std.proofs.Common.{arith, refl, sym, ap, ◌∙◌, subst}
 use Rattle.plain_machine.specs.declared.event.Event.TheVariants as event
 use Rattle.world_core.specs.World.{World}
 use Rattle.world_core.specs.Kept.{IsDown, kept_world}
@@ -7,6 +7,7 @@ use Rattle.world_core.specs.StandsFor.{is_off, keeps_dump}
 use Rattle.machine.specs.declared.machine.Machine.{Machine}
 use Rattle.world_core.proofs.Readiness.{can_run-resumed, no_tables_after}
 use Rattle.world_core.proofs.Resuming.{IsAfter, row_of_begin, awake_after, busy_after, idle_after, runs_after}
+use Rattle.world_core.proofs.StepsLeft.{loading_few, loading_left}
 use Rattle.world_core.proofs.world.World.begin_resume.Goals as goal
 
 pub invariant_of-self : goal.invariant_of-self
@@ -36,3 +37,11 @@ returns-clause-row c = λ k.
     subst (λ (old : World). Simulates (event.Resume c.args.loader c.args.check) old new c.begin-reply.result k k) c.self.view_is
     (row_of_begin (kept_world c.self.inside) new c.self.inside.frames c.args.loader c.args.check c.begin-reply.result k (ap (λ (w : World). is_off w.core) c.self.view_is ∙ c.requires.off)
     (record { loader = c.args.loader; core_is = c.core_after-self-inside.ensures.is; told = c.begin-reply.ensures.activity }) refl refl (λ asks. ap (λ (w : World). keeps_dump w.core) c.self.view_is ∙ c.requires.dump asks) c.begin-reply.ensures.row)
+
+pub returns-clause-few : goal.returns-clause-few
+returns-clause-few c =
+    let load = c.begin-reply.new.self in
+    let after : IsAfter load c.begin-reply.result c.core_after-self-inside.result = record { loader = c.args.loader; core_is = c.core_after-self-inside.ensures.is; told = c.begin-reply.ensures.activity } in
+    let left = loading_left c.begin-reply.result c.core_after-self-inside.result c.self.inside.hib load c.self.inside.waker after in
+    let few = loading_few load.stage in
+    omega arith

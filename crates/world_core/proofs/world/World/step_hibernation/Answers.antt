@@ -1,4 +1,4 @@
-use Rattle.std.proofs.Common.{inr, ap, sym, ◌∙◌, subst}
+use Rattle.std.proofs.Common.{◌<◌, inr, ap, sym, ◌∙◌, subst}
 use Rattle.std.proofs.lemmas.Bool.{false≢true}
 use Rattle.protocol_laws.specs.Rows.{is_idle}
 use Rattle.plain_machine.specs.declared.event.Event.TheVariants as event
@@ -18,6 +18,10 @@ use Rattle.protocol_laws.specs.Slots.{IsMemoryOf}
 use Rattle.world_core.proofs.Hibernating.{row_of_step, busy_told, never_loads, never_wakes, restores_none}
 use Rattle.world_core.proofs.Readiness.{can_run-same, no_tables_told}
 use Rattle.world_core.proofs.Rows.{is_up}
+use Rattle.hib_core.specs.StepsLeft.{saving_steps_left}
+use Rattle.world_core.specs.StepsLeft.{steps_left}
+use Rattle.world_core.specs.declared.world.Core.TheVariants.{Hibernating}
+use Rattle.world_core.proofs.StepsLeft.{fewer_from, saving_fewer}
 use Rattle.world_core.proofs.world.World.step_hibernation.Goals as goal
 
 pub invariant_of-self : goal.invariant_of-self
@@ -72,3 +76,10 @@ returns-clause-memory g c =
       unsure = λ e. stayed h change c.self.inside.frames c.step-reply.new.frames c.step-reply.ensures.memory e;
     } in
     subst (λ (old : World). KeepsUsedFrames old new c.step-reply.result) c.self.view_is keeps
+
+pub returns-clause-fewer : goal.returns-clause-fewer
+returns-clause-fewer g c =
+    let old = kept_world c.self.inside in
+    let new = kept_world (record { machine = c.step-reply.new.machine; frames = c.step-reply.new.frames; runs = c.step-reply.new.runs; hib = c.step-reply.new.self; load = c.self.inside.load; waker = c.self.inside.waker; core = c.core_after-self-inside.result }) in
+    let less = saving_fewer c.step-reply.result c.core_after-self-inside.result (saving_steps_left old.hib) new.hib new.load new.waker c.core_after-self-inside.ensures c.step-reply.ensures.fewer in
+    subst (λ (w : World). steps_left new < steps_left w) c.self.view_is (fewer_from (steps_left new) old Hibernating (ap (λ (w : World). w.core) c.self.view_is ∙ c.requires.hibernates) less)

@@ -1,4 +1,4 @@
-use Rattle.std.proofs.Common.{inl, inr, ap, sym, ◌∙◌, subst, ⊎_elim}
+use Rattle.std.proofs.Common.{◌<◌, inl, inr, ap, sym, ◌∙◌, subst, ⊎_elim, arith}
 use Rattle.std.proofs.lemmas.Bool.{false≢true}
 use Rattle.protocol_laws.specs.Rows.{is_idle}
 use Rattle.plain_machine.specs.declared.event.Event.TheVariants as event
@@ -6,6 +6,10 @@ use Rattle.plain_machine.specs.declared.event.Actor.TheVariants as actor
 use Rattle.plain_machine.specs.Machine.{Hardware}
 use Rattle.plain_machine.specs.declared.event.Loader.{Loader}
 use Rattle.world_core.specs.StandsFor.{core_resumed}
+use Rattle.resume_core.specs.StepsLeft.{loading_steps_left}
+use Rattle.world_core.specs.StepsLeft.{steps_left}
+use Rattle.world_core.specs.declared.world.Core.TheVariants.{Loading}
+use Rattle.world_core.proofs.StepsLeft.{fewer_from, loading_left}
 use Rattle.world_core.specs.World.{World}
 use Rattle.world_core.specs.Kept.{IsDown, kept_world}
 use Rattle.protocol_laws.specs.Rows.{TellsNewFault}
@@ -53,3 +57,13 @@ pub returns-clause-called : goal.returns-clause-called
 returns-clause-called g c =
     called_as g.D.Disk AtMostOneCall (CallsAtMostOnce (event.Step actor.Core) c.step-reply.result) (TellsNewFault c.step-reply.result) c.args.disk.now c.step-reply.new.disk
     (λ made. ⊎_elim (λ same. inl same) (λ one. inr (tt, (λ e. false≢true (sym c.step-reply.ensures.works ∙ ap is_idle e)), one)) made) c.step-reply.ensures.called
+
+pub returns-clause-fewer : goal.returns-clause-fewer
+returns-clause-fewer g c =
+    let old = kept_world c.self.inside in
+    let new = kept_world (record { machine = c.step-reply.new.machine; frames = c.step-reply.new.frames; runs = c.step-reply.new.runs; hib = c.self.inside.hib; load = c.step-reply.new.self; waker = c.self.inside.waker; core = c.core_after-self-inside.result }) in
+    let after : IsAfter new.load c.step-reply.result new.core = record { loader = old.load.loader; core_is = c.core_after-self-inside.ensures.is ∙ ap (λ (l : Loader). core_resumed l c.step-reply.result) (c.loader.ensures ∙ c.step-reply.ensures.loader); told = c.step-reply.ensures.activity } in
+    let left = loading_left c.step-reply.result new.core new.hib new.load new.waker after in
+    let fewer : loading_steps_left new.load < loading_steps_left old.load = c.step-reply.ensures.fewer in
+    let less : steps_left new < loading_steps_left old.load = omega arith in
+    subst (λ (w : World). steps_left new < steps_left w) c.self.view_is (fewer_from (steps_left new) old Loading (ap (λ (w : World). w.core) c.self.view_is ∙ c.requires.resumes) less)

@@ -1,4 +1,4 @@
-use Rattle.std.proofs.Common.{sym, ap, ◌∙◌, subst}
+use Rattle.std.proofs.Common.{◌<◌, sym, ap, ◌∙◌, subst}
 use Rattle.plain_machine.specs.declared.event.Event.TheVariants as event
 use Rattle.plain_machine.specs.declared.event.Actor.TheVariants as actor
 use Rattle.definitions.specs.Zones.{top}
@@ -7,6 +7,11 @@ use Rattle.hib_core.proofs.BeginTables.{slot_table_lies}
 use Rattle.protocol_laws.specs.Slots.{IsMemoryOf}
 use Rattle.world_core.specs.Kept.{kept_world, HasTables, IsDown, IsUp}
 use Rattle.world_core.specs.Row.{SimulatesWhereTold, Restores, WakesWith}
+use Rattle.sleep_core.specs.Waking.{waking_steps_left}
+use Rattle.world_core.specs.StepsLeft.{steps_left, steps_left_in}
+use Rattle.world_core.specs.declared.world.Core.{Core}
+use Rattle.world_core.specs.declared.world.Core.TheVariants.{Waking}
+use Rattle.world_core.proofs.StepsLeft.{fewer_from, waking_fewer}
 use Rattle.world_core.specs.World.{World}
 use Rattle.world_core.proofs.Readiness.{can_run-same}
 use Rattle.world_core.proofs.Wakes.{in_place, left_entries, left_machine, restores_none, row_of_step, wakes_on, wakes_with, woken_loads_not, woken_no_tables, woken_not_busy}
@@ -71,3 +76,10 @@ returns-clause-memory g c =
 
 pub leave-requires-clause-table : goal.leave-requires-clause-table
 leave-requires-clause-table g c = slot_table_lies c.self.inside.machine.hw c.self.inside.frames c.zones-zones.ensures.hardware c.self.invariant.size
+
+pub returns-clause-fewer : goal.returns-clause-fewer
+returns-clause-fewer g c =
+    let old = kept_world c.self.inside in
+    let new = record old { machine = c.leave.new.machine; frames = c.leave.new.frames; waker = c.step-reply.new.self; core = c.core_after-self-inside.result } in
+    let less = subst (λ (k : Core). steps_left_in k new.hib new.load new.waker < waking_steps_left old.waker) (sym c.core_after-self-inside.ensures) (waking_fewer c.step-reply.result (waking_steps_left old.waker) new.hib new.load new.waker c.step-reply.ensures.fewer) in
+    subst (λ (w : World). steps_left new < steps_left w) c.self.view_is (fewer_from (steps_left new) old Waking (ap (λ (w : World). w.core) c.self.view_is ∙ c.requires.wakes) less)

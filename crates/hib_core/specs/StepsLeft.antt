@@ -1,0 +1,29 @@
+-- How many steps are left at most, by the stage alone: so also over a disk that tells nothing of its content.
+use Rattle.std.specs.Prelude.{ℕ, ◌+◌, ◌-◌}
+use Rattle.hib_core.specs.declared.hib.Hib.{Hib}
+use Rattle.hib_core.specs.declared.hib.Saving.{Saving}
+use Rattle.hib_core.specs.declared.hib.Stage.{Stage}
+use Rattle.hib_core.specs.declared.hib.Stage.TheVariants as stage
+
+-- While an image is saved: the steps that aren't made yet, and the two of an undo, which follows a mark that fails.
+abbrev pub steps_left_saving : Saving → ℕ
+steps_left_saving saving = 2 + (saving.steps - saving.done)
+
+abbrev pub steps_left_at : Stage → ℕ
+steps_left_at stage.Idle = 0
+steps_left_at stage.Over = 0
+steps_left_at stage.Asleep = 0
+steps_left_at (stage.Write saving writer) = steps_left_saving saving
+steps_left_at (stage.Sync saving) = steps_left_saving saving
+steps_left_at (stage.Read saving) = steps_left_saving saving
+steps_left_at (stage.Mark saving header) = steps_left_saving saving
+steps_left_at (stage.End saving header) = steps_left_saving saving
+steps_left_at (stage.TakeBack call header) = 2
+steps_left_at (stage.EndUndo call) = 1
+steps_left_at stage.SettleRead = 3
+steps_left_at (stage.SettleWrite header) = 2
+steps_left_at stage.SettleSync = 1
+
+-- Each step of a hibernation, an undo or a settling leaves fewer, and where none is under way none are left.
+abbrev pub saving_steps_left : Hib → ℕ
+saving_steps_left hib = steps_left_at hib.stage

@@ -1,0 +1,20 @@
+-- How many steps a resume has left at most. Each step leaves fewer, over any disk, so a resume ends.
+use Rattle.std.specs.Prelude.{◌+◌, ℕ}
+use Rattle.image_read.specs.Reading.{places_left}
+use Rattle.resume_core.specs.declared.load.Load.{Load}
+use Rattle.resume_core.specs.declared.load.Stage.{Stage}
+use Rattle.resume_core.specs.declared.load.Stage.TheVariants as stage
+
+-- by the step that is next: a chain has 65,794 blocks at most, and the stages up to it are a step each
+abbrev pub loading_steps_left_at : Stage → ℕ
+loading_steps_left_at stage.Rest = 0
+loading_steps_left_at stage.Runs = 0
+loading_steps_left_at stage.Sync = 65800
+loading_steps_left_at stage.Find = 65799
+loading_steps_left_at (stage.TakeBack found) = 65798
+loading_steps_left_at (stage.SyncBack found) = 65797
+loading_steps_left_at (stage.List chain) = places_left chain.reader + 2
+loading_steps_left_at (stage.Read chain) = places_left chain.reader + 1
+
+abbrev pub loading_steps_left : Load → ℕ
+loading_steps_left load = loading_steps_left_at load.stage

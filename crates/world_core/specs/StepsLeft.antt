@@ -1,0 +1,47 @@
+-- How many steps of the core a world has left at most, by what it is at alone: so also over a disk that tells nothing
+-- of its content.
+use Rattle.std.specs.Prelude.{◌≡◌, ◌≢◌, ◌⊎◌, ◌<◌, ◌≤◌, ℕ, ⊤}
+use Rattle.plain_machine.specs.declared.event.Actor.TheVariants as actor
+use Rattle.plain_machine.specs.declared.event.Event.{Event}
+use Rattle.plain_machine.specs.declared.event.Event.TheVariants as event
+use Rattle.plain_machine.specs.declared.reply.Reply.{Reply}
+use Rattle.plain_machine.specs.declared.reply.Reply.TheVariants as reply
+use Rattle.hib_core.specs.StepsLeft.{saving_steps_left}
+use Rattle.hib_core.specs.declared.hib.Hib.{Hib}
+use Rattle.resume_core.specs.StepsLeft.{loading_steps_left}
+use Rattle.resume_core.specs.declared.load.Load.{Load}
+use Rattle.sleep_core.specs.Waking.{waking_steps_left}
+use Rattle.sleep_core.specs.declared.waker.Waker.{Waker}
+use Rattle.world_core.specs.declared.world.Core.{Core}
+use Rattle.world_core.specs.declared.world.Core.TheVariants.{Off, Running, BootBegun, BootSynced, Hibernating, Asleep}
+use Rattle.world_core.specs.declared.world.Core.TheVariants.{Waking, Loading}
+use Rattle.world_core.specs.StandsFor.{IsOff}
+use Rattle.world_core.specs.World.{World}
+
+abbrev pub steps_left_in : Core → Hib → Load → Waker → ℕ
+steps_left_in (Off keeps) hib load waker = 0
+steps_left_in Running hib load waker = 0
+steps_left_in (BootBegun from) hib load waker = 2
+steps_left_in (BootSynced from) hib load waker = 1
+steps_left_in Hibernating hib load waker = saving_steps_left hib
+steps_left_in Asleep hib load waker = 0
+steps_left_in Waking hib load waker = waking_steps_left waker
+steps_left_in Loading hib load waker = loading_steps_left load
+
+abbrev pub steps_left : World → ℕ
+steps_left w = steps_left_in w.core w.hib w.load w.waker
+
+-- A step of the core leaves fewer steps, unless it says that there was none to make. One of a resume that neither goes
+-- on nor ends it, since the image was refused or a call failed, leaves the machine off.
+pub record ComesCloser (old : World) (r : Reply) (new : World) : Type 0 where
+  pub fewer : r ≢ reply.Idle → steps_left new < steps_left old
+  pub idle : r ≡ reply.Idle → steps_left new ≡ 0
+  pub stopped : old.core ≡ Loading → ((k : ℕ) → r ≢ reply.Loading k) → ((n : ℕ) → r ≢ reply.Resumed n) → IsOff new
+
+-- A resume that has begun has 65,800 steps at most: two before its mark is found, two that take it back, and those that
+-- read the longest chain.
+abbrev pub Ends : Event → World → Reply → World → Type 0
+Ends (event.Step actor.Core) old r new = ComesCloser old r new
+Ends (event.Resume loader check) old r new =
+    ((r ≡ reply.Loading 0) × (steps_left new ≤ 65800)) ⊎ ((r ≡ reply.NotOff) ⊎ (r ≡ reply.NoDump))
+Ends _ old r new = ⊤
