@@ -1,6 +1,6 @@
 #!/usr/bin/env python3
 """Checks that man/swsusp-replies.7 has a row for each line that the programs print or note: the texts of the replies
-(crates/script/src/replies.rt) and of the notes of both command lines. Prints those that have none, and ends with status 1 where there
+(crates/script/src/phrases.rt) and of the notes of both command lines. Prints those that have none, and ends with status 1 where there
 is one."""
 import pathlib
 import re
@@ -31,10 +31,10 @@ def texts(path, calls):
 
 def main():
     wanted = []
-    replies = (top / "crates/script/src/replies.rt").read_text()
+    replies = (top / "crates/script/src/phrases.rt").read_text()
     body = replies[replies.index("match reply") :]
     body = body[: body.index("\n}\n")]
-    for text in re.findall(r"=>\s*(?:\{\s*)?(?:line\.put|put_one|put_two|put_wide|put_fault|put_booted|put_undo|put_counts)\([^;]*?b\"([^\"]*)\"", body):
+    for text in re.findall(r"=>\s*(?:\{\s*)?Phrase::\w+\(\s*b\"([^\"]*)\"", body):
         wanted.append(text)
     wanted += ["booted image yes", "booted image no", "undo ", "mismatch ", "bad counts "]
     no_swap = (top / "crates/script/src/texts.rt").read_text()

@@ -13,7 +13,7 @@ import sys
 TOP = pathlib.Path(__file__).resolve().parent.parent
 PAGE = TOP / "docs" / "READING.md"
 START = TOP / "crates/swsusp_cli/src/top.rt"
-USE = re.compile(r"^(?:ghost )?use Rattle\.(\w+)\.specs\.([\w.]+?)(?:\.\{([^}]*)\}|\.([◌\w]\S*))?(?: as \w+)?;?$", re.MULTILINE)
+USE = re.compile(r"^(?:ghost )?use Rattle\.(\w+)\.specs\.([\w.]+?)(?:\.\{([^}]*)\}|\.(◌\S*))?(?: as \w+)?;?$", re.MULTILINE)
 FLOORS = [
     ("The program", ("swsusp_cli", "swsusp_words", "command_kit")),
     ("What a command's machine does", ("command_core", "world_runs", "run_laws")),

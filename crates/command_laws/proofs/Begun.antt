@@ -91,7 +91,7 @@ pub record FailsAt (v : disk.DiskImage) (p : Point) : Type 0 where
   pub new_fault : TellsNewFault p.reply
 
 -- the machine runs as this state says, over the disk v, which is as it was
-pub record IsUp (a : Running) (v : disk.DiskImage) (p : Point) : Type 0 where
+pub record RunsUntouched (a : Running) (v : disk.DiskImage) (p : Point) : Type 0 where
   pub untouched : IsUntouched v p
   pub state : p.state ≡ on a
 
@@ -120,7 +120,7 @@ boots_second h m v p q at turn =
       | inr fault ↦ inr (ap goes_on fault, record { untouched = untouched; fault = subst EndsInFault (sym fault) tt; new_fault = subst TellsNewFault (sym fault) tt })
     ]
 
-pub boots_third : (h : Hardware) (m : Memory) (v : disk.DiskImage) (blocks : ℕ) (p q : Point) → disk.IsContent blocks (disk.settled v) → BootsAt h m v 1 p → IsTurn h (event.Step actor.Core) p q → ((is_booted q.reply ≡ true) × IsUp (machine_of_dump h m v) v q) ⊎ ((is_booted q.reply ≡ false) × FailsAt v q)
+pub boots_third : (h : Hardware) (m : Memory) (v : disk.DiskImage) (blocks : ℕ) (p q : Point) → disk.IsContent blocks (disk.settled v) → BootsAt h m v 1 p → IsTurn h (event.Step actor.Core) p q → ((is_booted q.reply ≡ true) × RunsUntouched (machine_of_dump h m v) v q) ⊎ ((is_booted q.reply ≡ false) × FailsAt v q)
 boots_third h m v blocks p q whole at turn =
     let held = held_at_first h v in
     let same = reads_first blocks v p whole at.untouched in
@@ -133,7 +133,7 @@ boots_third h m v blocks p q whole at turn =
     ]
 
 -- Cached page frames are dropped of a machine that has booted, over the same disk.
-pub up_shrunk : (h : Hardware) (m : Memory) (v : disk.DiskImage) (want : ℕ) (p q : Point) → IsUp (machine_of_dump h m v) v p → IsTurn h (event.Shrink want) p q → IsUp (machine_to_save h m (Some want) v) v q
+pub up_shrunk : (h : Hardware) (m : Memory) (v : disk.DiskImage) (want : ℕ) (p q : Point) → RunsUntouched (machine_of_dump h m v) v p → IsTurn h (event.Shrink want) p q → RunsUntouched (machine_to_save h m (Some want) v) v q
 up_shrunk h m v want p q up turn =
     let a = machine_of_dump h m v in
     record {

@@ -23,7 +23,7 @@ use Rattle.command_core.specs.Runs.{AreStepped, IsAsked, IsHibernation, RunsOver
 use Rattle.command_core.specs.declared.ending.Ended.{Ended}
 use Rattle.command_laws.specs.Hibernations.{HasHibernated, IsUnmarkedOrHolds, image_to_save, machine_of_dump, machine_to_save}
 use Rattle.command_laws.specs.Points.{Point}
-use Rattle.command_laws.proofs.Begun.{IsUntouched, IsUp, untouched_first, untouched_then, untouched_at, save_writes, boots_first, boots_second, boots_third, up_shrunk, step_from}
+use Rattle.command_laws.proofs.Begun.{IsUntouched, RunsUntouched, untouched_first, untouched_then, untouched_at, save_writes, boots_first, boots_second, boots_third, up_shrunk, step_from}
 use Rattle.command_laws.proofs.Booting.{hibernation_begins}
 use Rattle.command_laws.proofs.Crashes.{header_by, never_inside, saves_inside, untouched_inside}
 use Rattle.command_laws.proofs.Ending.{has_gone, stands_at_end}
@@ -78,7 +78,7 @@ unbooted h m v blocks a f ended told p begun synced (q ∷ r ∷ s ∷ t ∷ thr
 record ComesUp (h : Hardware) (a : Running) (v : disk.DiskImage) (events : List Event) (replies : List Reply) (p : Situation) (through : List Situation) : Type 0 where
   pub at : Situation
   pub last : Reply
-  pub up : IsUp a v (point last true at)
+  pub up : RunsUntouched a v (point last true at)
   pub later : List Situation
   pub turns : AreTurns h at events replies later
   pub end : end_of p through ≡ end_of at later
@@ -116,7 +116,7 @@ boots h m v blocks events replies p begun synced booted (q ∷ r ∷ s ∷ throu
       ]
     ]
 
-shrunk_by : (h : Hardware) (m : Memory) (v : disk.DiskImage) (blocks want : ℕ) (events : List Event) (replies : List Reply) (r last : Reply) (at : Situation) (later : List Situation) (p : Situation) (through : List Situation) → disk.IsContent blocks (disk.settled v) → IsUp (machine_of_dump h m v) v (point last true at) →
+shrunk_by : (h : Hardware) (m : Memory) (v : disk.DiskImage) (blocks want : ℕ) (events : List Event) (replies : List Reply) (r last : Reply) (at : Situation) (later : List Situation) (p : Situation) (through : List Situation) → disk.IsContent blocks (disk.settled v) → RunsUntouched (machine_of_dump h m v) v (point last true at) →
     AreTurns h at (event.Shrink want ∷ events) (r ∷ replies) later → end_of p through ≡ end_of at later → ((w : disk.DiskImage) → IsLeftInside p through w → (w ≡ v) ⊎ IsLeftInside at later w) → ComesUp h (machine_to_save h m (Some want) v) v events replies p through
 shrunk_by h m v blocks want events replies r last at [] p through whole up turns end inside = absurd turns
 shrunk_by h m v blocks want events replies r last at (q ∷ later) p through whole up (turn, turns) end inside =
@@ -151,12 +151,12 @@ ready h m v blocks (Some want) events replies p begun synced booted (r ∷ s ∷
 
 module _ (h : Hardware) (m : Memory) (v : disk.DiskImage) (size : Option ℕ) (f : Format) where
   -- after its event nothing is written
-  begun_untouched : (last begun : Reply) (p q : Situation) → IsUp (machine_to_save h m size v) v (point last true p) → AreTurns h p (event.Hibernate f ∷ []) (begun ∷ []) (q ∷ []) → IsUntouched v (point begun true q)
+  begun_untouched : (last begun : Reply) (p q : Situation) → RunsUntouched (machine_to_save h m size v) v (point last true p) → AreTurns h p (event.Hibernate f ∷ []) (begun ∷ []) (q ∷ []) → IsUntouched v (point begun true q)
   begun_untouched last begun p q up turns =
       untouched_then h (event.Hibernate f) v (point last true p) (point begun true q) up.untouched (turn_at h (event.Hibernate f) last begun true p q turns.0)
       (λ b in'. save_writes h m size v b (subst (λ (s : State). Contains (blocks_written h s) b) up.state in'))
 
-  hibernates : (last begun : Reply) (rest : List Reply) (ended : Ended) (told : Option disk.Content) (p : Situation) (through : List Situation) → IsUp (machine_to_save h m size v) v (point last true p) → AreStepped begun rest ended → AreTurns h p (event.Hibernate f ∷ core_steps rest) (begun ∷ rest) through → told ≡ Some (end_of p through).content → HasHibernated h (machine_to_save h m size v) f v ended told
+  hibernates : (last begun : Reply) (rest : List Reply) (ended : Ended) (told : Option disk.Content) (p : Situation) (through : List Situation) → RunsUntouched (machine_to_save h m size v) v (point last true p) → AreStepped begun rest ended → AreTurns h p (event.Hibernate f ∷ core_steps rest) (begun ∷ rest) through → told ≡ Some (end_of p through).content → HasHibernated h (machine_to_save h m size v) f v ended told
   hibernates last begun rest ended told p [] up stepped turns says = absurd turns
   hibernates last begun rest ended told p (q ∷ through) up stepped (turn, turns) says =
       let a = machine_to_save h m size v in
@@ -170,7 +170,7 @@ module _ (h : Hardware) (m : Memory) (v : disk.DiskImage) (size : Option ℕ) (f
         | inr is ↦ saves h a f v shown start ended told now says refl untouched is.0 (subst (λ (r : Reply). IsAt (image_to_save h a f) a 0 r q.state false) (sym is.1) is.2) gone
       ]
 
-  inside_hibernation : (blocks : ℕ) (last begun : Reply) (rest : List Reply) (ended : Ended) (w : disk.DiskImage) (p : Situation) (through : List Situation) → disk.IsContent blocks (disk.settled v) → IsUp (machine_to_save h m size v) v (point last true p) → AreStepped begun rest ended → AreTurns h p (event.Hibernate f ∷ core_steps rest) (begun ∷ rest) through → IsLeftInside p through w → (w ≡ v) ⊎ IsUnmarkedOrHolds h (image_to_save h (machine_to_save h m size v) f) w
+  inside_hibernation : (blocks : ℕ) (last begun : Reply) (rest : List Reply) (ended : Ended) (w : disk.DiskImage) (p : Situation) (through : List Situation) → disk.IsContent blocks (disk.settled v) → RunsUntouched (machine_to_save h m size v) v (point last true p) → AreStepped begun rest ended → AreTurns h p (event.Hibernate f ∷ core_steps rest) (begun ∷ rest) through → IsLeftInside p through w → (w ≡ v) ⊎ IsUnmarkedOrHolds h (image_to_save h (machine_to_save h m size v) f) w
   inside_hibernation blocks last begun rest ended w p [] whole up stepped turns left = absurd turns
   inside_hibernation blocks last begun rest ended w p (q ∷ through) whole up stepped (turn, turns) (inl mixed) =
       inl (untouched_inside blocks v w (point last true p) (point begun true q) whole up.untouched (begun_untouched last begun p q up (turn, tt)) mixed)

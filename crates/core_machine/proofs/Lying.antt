@@ -16,8 +16,12 @@ use Rattle.image_machine.specs.Filled.{IsFilled}
 use Rattle.image_machine.specs.Machines.{numbers_of}
 use Rattle.image_machine.specs.declared.filled.FilledPlan.{FilledPlan}
 use Rattle.image_machine.proofs.Laying.{numbers-more}
-use Rattle.core_machine.specs.Laid.{IsLaidOver, LiesBelow}
+use Rattle.core_machine.specs.Laid.{IsLaidOver, IsSamePlan, LiesBelow}
 use Rattle.core_machine.specs.Made.{holds_bytes, saved_of}
+
+-- what stays the same in two steps stays the same
+pub same_later : {old mid new : FilledPlan} → IsSamePlan old mid → IsSamePlan mid new → IsSamePlan old new
+same_later s t = record { heading = t.heading ∙ s.heading; layout = t.layout ∙ s.layout; zones = t.zones ∙ s.zones }
 
 -- a page frame of the one zone
 pub in_zone : (n p : ℕ) (zones : List (ℕ × ℕ)) → zones ≡ (0, n) ∷ [] → p < n → Contains (numbers zones) p

@@ -7,6 +7,12 @@ use Rattle.image_machine.specs.Machines.{numbers_of}
 use Rattle.image_machine.specs.declared.filled.FilledPlan.{FilledPlan}
 use Rattle.core_machine.specs.Made.{end_after}
 
+-- a plan has the heading, the layout and the zones that it had
+pub record IsSamePlan (old new : FilledPlan) : Type 0 where
+  pub heading : new.plan.heading ≡ old.plan.heading
+  pub layout : new.plan.layout ≡ old.plan.layout
+  pub zones : new.plan.zones ≡ old.plan.zones
+
 -- a plan has just these page frames, and all of them lie below another one
 pub record LiesBelow (filled : FilledPlan) (saved : List (ℕ × List ℕ)) (frame : ℕ) : Type 0 where
   pub has : IsFilled filled saved

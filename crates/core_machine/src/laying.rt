@@ -9,7 +9,7 @@ ghost use Rattle.core_segments.specs.Reading.{IsReadTo};
 ghost use Rattle.core_segments.specs.Segments.{first_frame, frame_end, place_after, place_fault, segments_fault};
 ghost use Rattle.core_segments.specs.Segments.{size_fault};
 ghost use Rattle.image_machine.specs.Filled.{IsFilled};
-ghost use Rattle.core_machine.specs.Laid.{IsLaid, IsLaidOver, LiesBelow};
+ghost use Rattle.core_machine.specs.Laid.{IsLaid, IsLaidOver, IsSamePlan, LiesBelow};
 ghost use Rattle.core_machine.specs.Made.{frames_in, holds_bytes, saved_of};
 ghost use Rattle.core_machine.specs.Stops.{StopsIn};
 ghost use Rattle.core_machine.specs.declared.stop.Stop.TheVariants as stop;
@@ -37,8 +37,7 @@ pub(crate) fn lay_all<S: Source>(
         IsReadTo bytes place (S.remaining source.old) → saved ≡ saved_of bytes segments.now)) }
     ensures whole { OnOk result ((bytes : List ℕ) → IsReadTo bytes place (S.remaining source.old) →
         places_end place segments.now ≤ length bytes) }
-    ensures heading { filled.new.plan.heading ≡ filled.old.plan.heading }
-    ensures layout { filled.new.plan.layout ≡ filled.old.plan.layout }
+    ensures same { IsSamePlan filled.old filled.new }
     ensures counted { S.faults source.old ≤ S.faults source.new }
     ensures cause { IfErr result (λ why. why ≡ stop.Source → HasRisen (S.faults source.old) (S.faults source.new)) }
 {
@@ -70,9 +69,7 @@ fn lay_segment<S: Source>(
     ensures place { IfOk result (λ now. now ≡ place_after place segment.now) }
     ensures left { IfOk result (λ now. (bytes : List ℕ) → IsReadTo bytes place (S.remaining source.old) →
         IsReadTo bytes now (S.remaining source.new)) }
-    ensures heading { filled.new.plan.heading ≡ filled.old.plan.heading }
-    ensures layout { filled.new.plan.layout ≡ filled.old.plan.layout }
-    ensures zones { filled.new.plan.zones ≡ filled.old.plan.zones }
+    ensures same { IsSamePlan filled.old filled.new }
     ensures counted { S.faults source.old ≤ S.faults source.new }
     ensures cause { IfErr result (λ why. why ≡ stop.Source → HasRisen (S.faults source.old) (S.faults source.new)) }
 {
@@ -93,9 +90,7 @@ fn lay_page(frame: u32, page: &Page, filled: &mut FilledPlan<'_>)
     requires valid { Contains (numbers filled.old.plan.zones) frame }
     ensures laid { (saved : List (ℕ × List ℕ)) → LiesBelow filled.old saved frame →
         LiesBelow filled.new (saved ++ filter holds_bytes ((frame, page.now) ∷ [])) (frame + 1) }
-    ensures heading { filled.new.plan.heading ≡ filled.old.plan.heading }
-    ensures layout { filled.new.plan.layout ≡ filled.old.plan.layout }
-    ensures zones { filled.new.plan.zones ≡ filled.old.plan.zones }
+    ensures same { IsSamePlan filled.old filled.new }
 {
     if is_zeros(page) {
         return;
@@ -109,9 +104,7 @@ fn add_page(frame: u32, page: &Page, filled: &mut FilledPlan<'_>)
     requires valid { Contains (numbers filled.old.plan.zones) frame }
     ensures laid { (saved : List (ℕ × List ℕ)) → LiesBelow filled.old saved frame →
         LiesBelow filled.new (saved ++ (frame, page.now) ∷ []) (frame + 1) }
-    ensures heading { filled.new.plan.heading ≡ filled.old.plan.heading }
-    ensures layout { filled.new.plan.layout ≡ filled.old.plan.layout }
-    ensures zones { filled.new.plan.zones ≡ filled.old.plan.zones }
+    ensures same { IsSamePlan filled.old filled.new }
 {
     match filled.add(u64::from(frame), page) {
         Ok(()) => {}

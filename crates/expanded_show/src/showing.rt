@@ -134,8 +134,7 @@ fn show_facts<'a, 'b, E: Disk, F: Form, A: AreaFacts>(
     lent: LentForm<'a, F>,
 ) -> (LentForm<'a, F>, Result<Shown, Fault>)
     requires form { lent.form.ghost_name ≡ A.which }
-    requires header { header.now ≡ A.header }
-    requires blocks { blocks.now ≡ A.blocks }
+    requires area { (header.now ≡ A.header) × (blocks.now ≡ A.blocks) }
     ensures shown { IfOk result.1 (λ shown. (plain : List OneFact)
         × (Shows (E.content disk.old) (E.block_count disk.old) 0 (E.faults disk.old) (E.faults disk.new) plain shown
         × Puts F.style (flat_map (standing A.header A.blocks) plain)

@@ -80,8 +80,8 @@ fn print_image<D: Disk, F: Form>(
     format: Format,
 ) -> Result<(), Failed>
     requires blocks { D.block_count disk.old ≡ once.old.walker.limits.blocks }
-    requires same { again.old.walker.limits ≡ once.old.walker.limits }
-    requires same_first { again.old.walker.walk.next ≡ once.old.walker.walk.next }
+    requires same { (again.old.walker.limits ≡ once.old.walker.limits)
+        × (again.old.walker.walk.next ≡ once.old.walker.walk.next) }
     requires start { Reads once.old.walker.walk.next once.old [] }
     requires start_again { Reads again.old.walker.walk.next again.old [] }
     ensures shown { OnOk result ((image : List OneFact)

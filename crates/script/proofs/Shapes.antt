@@ -23,6 +23,7 @@ use Rattle.script.specs.Shapes.{Row, setting_rows, event_rows, core_rows, machin
 use Rattle.script.specs.Grammar.{is_printable, row_of, by_rows, words_item, item_of, line_item}
 use Rattle.script.specs.Items.{if_found, setting_in, setting_item, event_in, core_event_in, machine_event_in}
 use Rattle.script.specs.Items.{outside_event_in, task_event_in}
+use Rattle.script.specs.Items.{setting_found, task_found, machine_found, outside_found}
 use Rattle.script.proofs.NumbersLaws.{all_numbers-other}
 use Rattle.script.proofs.RangesLaws.{all_ranges-many}
 
@@ -164,15 +165,15 @@ by_no_setting begun (Some row) words is = by (row.reads words) is where
   by (Err k) e = absurd (cc)
 
 pub setting_item-setting : (begun : Bool) (first : List ℕ) (words : List (List ℕ)) (x : Setting) → setting_in first words ≡ Ok (Some x) → setting_item begun first words ≡ cond begun (Err kind.Late) (Ok (Sets x))
-unfolding setting_item setting_in
+unfolding setting_item setting_in setting_found
 setting_item-setting begun first words x is = by_setting begun (row_of first setting_rows) words x is
 
 pub setting_item-fault : (begun : Bool) (first : List ℕ) (words : List (List ℕ)) (k : FaultKind) → setting_in first words ≡ Err k → setting_item begun first words ≡ cond begun (Err kind.Late) (Err k)
-unfolding setting_item setting_in
+unfolding setting_item setting_in setting_found
 setting_item-fault begun first words k is = by_setting_fault begun (row_of first setting_rows) words k is
 
 pub setting_item-word : (begun : Bool) (first : List ℕ) (words : List (List ℕ)) → setting_in first words ≡ Ok None → setting_item begun first words ≡ Err kind.Word
-unfolding setting_item setting_in
+unfolding setting_item setting_in setting_found
 setting_item-word begun first words is = by_no_setting begun (row_of first setting_rows) words is
 
 -- what stands in one of two tables
@@ -208,15 +209,15 @@ found_event : (first : List ℕ) (words : List (List ℕ)) → if_found (row_of 
 found_event first words = ap (λ row. if_found row words) (found_in_both (λ row. bytes_eq row.first first) task_rows core_rows)
 
 pub event_in-task : (first : List ℕ) (words : List (List ℕ)) (x : ℕ × Event) → task_event_in first words ≡ Ok (Some x) → event_in first words ≡ Ok (Some x)
-unfolding event_in task_event_in
+unfolding event_in task_event_in task_found
 event_in-task first words x is = found_event first words ∙ if_front (row_of first task_rows) (row_of first core_rows) words x is
 
 pub event_in-fault : (first : List ℕ) (words : List (List ℕ)) (k : FaultKind) → task_event_in first words ≡ Err k → event_in first words ≡ Err k
-unfolding event_in task_event_in
+unfolding event_in task_event_in task_found
 event_in-fault first words k is = found_event first words ∙ if_front_fault (row_of first task_rows) (row_of first core_rows) words k is
 
 pub event_in-core : (first : List ℕ) (words : List (List ℕ)) → task_event_in first words ≡ Ok None → event_in first words ≡ core_event_in first words
-unfolding event_in task_event_in core_event_in
+unfolding event_in task_event_in core_event_in task_found
 event_in-core first words is = found_event first words ∙ if_back (row_of first task_rows) (row_of first core_rows) words is
 
 -- an event of the whole machine is one that it is to do, or one from outside
@@ -224,15 +225,15 @@ found_core : (first : List ℕ) (words : List (List ℕ)) → if_found (row_of f
 found_core first words = ap (λ row. if_found row words) (found_in_both (λ row. bytes_eq row.first first) machine_rows outside_rows)
 
 pub core_event_in-machine : (first : List ℕ) (words : List (List ℕ)) (x : ℕ × Event) → machine_event_in first words ≡ Ok (Some x) → core_event_in first words ≡ Ok (Some x)
-unfolding core_event_in machine_event_in
+unfolding core_event_in machine_event_in machine_found
 core_event_in-machine first words x is = found_core first words ∙ if_front (row_of first machine_rows) (row_of first outside_rows) words x is
 
 pub core_event_in-fault : (first : List ℕ) (words : List (List ℕ)) (k : FaultKind) → machine_event_in first words ≡ Err k → core_event_in first words ≡ Err k
-unfolding core_event_in machine_event_in
+unfolding core_event_in machine_event_in machine_found
 core_event_in-fault first words k is = found_core first words ∙ if_front_fault (row_of first machine_rows) (row_of first outside_rows) words k is
 
 pub core_event_in-outside : (first : List ℕ) (words : List (List ℕ)) → machine_event_in first words ≡ Ok None → core_event_in first words ≡ outside_event_in first words
-unfolding core_event_in machine_event_in outside_event_in
+unfolding core_event_in machine_event_in outside_event_in machine_found outside_found
 core_event_in-outside first words is = found_core first words ∙ if_back (row_of first machine_rows) (row_of first outside_rows) words is
 
 -- what a line says, by its first ten words

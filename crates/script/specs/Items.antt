@@ -59,9 +59,23 @@ abbrev pub if_found : {A : Type 0} → Option (Row A) → List (List ℕ) → Re
 if_found None words = Ok None
 if_found (Some row) words = row.reads words >>= λ s. Ok (Some s)
 
+-- the row that a first word has among those of settings, of what a task asks for, of events of the machine, and of what
+-- happens to it from outside
+unfoldable pub setting_found : List ℕ → Option (Row Setting)
+setting_found first = row_of first setting_rows
+
+unfoldable pub task_found : List ℕ → Option (Row (ℕ × Event))
+task_found first = row_of first task_rows
+
+unfoldable pub machine_found : List ℕ → Option (Row (ℕ × Event))
+machine_found first = row_of first machine_rows
+
+unfoldable pub outside_found : List ℕ → Option (Row (ℕ × Event))
+outside_found first = row_of first outside_rows
+
 -- the setting that a line is, where its first word is a setting's
 unfoldable pub setting_in : List ℕ → List (List ℕ) → Result (Option Setting) FaultKind
-setting_in first words = if_found (row_of first setting_rows) words
+setting_in first words = if_found (setting_found first) words
 
 -- how many times which event a line is, where its first word is an event's
 unfoldable pub event_in : List ℕ → List (List ℕ) → Result (Option (ℕ × Event)) FaultKind
@@ -73,13 +87,13 @@ core_event_in first words = if_found (row_of first core_rows) words
 
 -- of these, one of the machine, and one from outside or a step
 unfoldable pub machine_event_in : List ℕ → List (List ℕ) → Result (Option (ℕ × Event)) FaultKind
-machine_event_in first words = if_found (row_of first machine_rows) words
+machine_event_in first words = if_found (machine_found first) words
 
 unfoldable pub outside_event_in : List ℕ → List (List ℕ) → Result (Option (ℕ × Event)) FaultKind
-outside_event_in first words = if_found (row_of first outside_rows) words
+outside_event_in first words = if_found (outside_found first) words
 
 unfoldable pub task_event_in : List ℕ → List (List ℕ) → Result (Option (ℕ × Event)) FaultKind
-task_event_in first words = if_found (row_of first task_rows) words
+task_event_in first words = if_found (task_found first) words
 
 -- the answer is that of the grammar, unless memory ran out
 abbrev pub Stops : LineStop → Result Item FaultKind → Type 0

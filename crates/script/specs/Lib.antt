@@ -5,3 +5,4 @@ pub mod Settings
 pub mod Shapes
 pub mod Items
 pub mod Kinds
+pub mod Phrases

@@ -17,6 +17,14 @@ use Rattle.plain_machine.specs.declared.event.Loader.TheVariants as loader
 use Rattle.plain_machine.specs.declared.event.IdentCheck.TheVariants.{Compare}
 use Rattle.script.specs.declared.fault.FaultKind.{FaultKind}
 use Rattle.script.specs.declared.fault.FaultKind.TheVariants as kind
+use Rattle.script.specs.declared.first_words.SettingWord.{SettingWord}
+use Rattle.script.specs.declared.first_words.SettingWord.TheVariants as setting
+use Rattle.script.specs.declared.first_words.MachineWord.{MachineWord}
+use Rattle.script.specs.declared.first_words.MachineWord.TheVariants as machine
+use Rattle.script.specs.declared.first_words.OutsideWord.{OutsideWord}
+use Rattle.script.specs.declared.first_words.OutsideWord.TheVariants as outside
+use Rattle.script.specs.declared.first_words.TaskWord.{TaskWord}
+use Rattle.script.specs.declared.first_words.TaskWord.TheVariants as task
 use Rattle.script.specs.declared.grammar.Setting.{Setting}
 use Rattle.script.specs.declared.grammar.Setting.TheVariants.{Zone, Last, Bad, Region, Tables, Signature, Extent}
 use Rattle.script.specs.declared.words.Span.{Span}
@@ -159,18 +167,25 @@ region_row = record {
   reads = λ words. all_numbers (frames ∷ counts ∷ span 0 126 ∷ []) words >>= with_flags;
 }
 
+-- the row of a setting's first word
+abbrev pub setting_row : SettingWord → Row Setting
+setting_row setting.Zone =
+    number_row (codes "zone") (frames ∷ counts ∷ []) (λ n. Zone (slice_index n 0) (slice_index n 1))
+setting_row setting.Area = number_row (codes "area") (last_pages ∷ []) (λ n. Last (slice_index n 0))
+setting_row setting.Bad = number_row (codes "bad") (last_pages ∷ []) (λ n. Bad (slice_index n 0))
+setting_row setting.Region = region_row
+setting_row setting.Tables =
+    number_row (codes "tables") (frames ∷ frames ∷ []) (λ n. Tables (slice_index n 0) (slice_index n 1))
+setting_row setting.Hwsig = number_row (codes "hwsig") (span 0 4294967295 ∷ []) (λ n. Signature (slice_index n 0))
+setting_row setting.Extent =
+    number_row (codes "extent") (slots ∷ lengths ∷ slots ∷ [])
+    (λ n. Extent (slice_index n 0) (slice_index n 1) (slice_index n 2))
+
 -- a row for each first word of a setting
 abbrev pub setting_rows : List (Row Setting)
 setting_rows =
-    number_row (codes "zone") (frames ∷ counts ∷ []) (λ n. Zone (slice_index n 0) (slice_index n 1))
-    ∷ number_row (codes "area") (last_pages ∷ []) (λ n. Last (slice_index n 0))
-    ∷ number_row (codes "bad") (last_pages ∷ []) (λ n. Bad (slice_index n 0))
-    ∷ region_row
-    ∷ number_row (codes "tables") (frames ∷ frames ∷ []) (λ n. Tables (slice_index n 0) (slice_index n 1))
-    ∷ number_row (codes "hwsig") (span 0 4294967295 ∷ []) (λ n. Signature (slice_index n 0))
-    ∷ number_row (codes "extent") (slots ∷ lengths ∷ slots
-    ∷ []) (λ n. Extent (slice_index n 0) (slice_index n 1) (slice_index n 2))
-    ∷ []
+    map setting_row
+    (setting.Zone ∷ setting.Area ∷ setting.Bad ∷ setting.Region ∷ setting.Tables ∷ setting.Hwsig ∷ setting.Extent ∷ [])
 
 -- The events. A line says how many times an event.
 
@@ -229,42 +244,56 @@ resume_row = record {
   reads = λ line. all_ranges line >>= λ ranges. Ok (1, event.Resume (loader.Ranges ranges) Compare);
 }
 
--- a row for each first word of an event of the whole machine, of what happens to it from outside or step by step, and
--- of what a task asks for
+-- the row of each first word of an event of the whole machine
+abbrev pub machine_row : MachineWord → Row (ℕ × Event)
+machine_row machine.Boot = event_row (codes "boot") [] (λ n. event.Boot Fresh)
+machine_row machine.Hibernate = saving_row (codes "hibernate") (λ format. event.Hibernate format)
+machine_row machine.Suspend = saving_row (codes "suspend") (λ format. event.Suspend format)
+machine_row machine.Wake = event_row (codes "wake") [] (λ n. event.Wake)
+machine_row machine.Settle = event_row (codes "settle") [] (λ n. event.Settle)
+machine_row machine.Shrink = event_row (codes "shrink") (values ∷ []) (λ n. event.Shrink (slice_index n 0))
+machine_row machine.Resume = resume_row
+
+-- of what happens to it from outside or step by step
+abbrev pub outside_row : OutsideWord → Row (ℕ × Event)
+outside_row outside.Cut = event_row (codes "cut") (values ∷ []) (λ n. event.Cut (slice_index n 0))
+outside_row outside.Arm =
+    event_row (codes "arm") (span 1 1000000 ∷ span 0 1000000 ∷ values ∷ [])
+    (λ n. event.Arm (slice_index n 0) (slice_index n 1) (slice_index n 2))
+outside_row outside.Step = step_row
+outside_row outside.Steps = core_row (codes "steps") (span 1 100000 ∷ []) (λ n. slice_index n 0)
+
+-- and of what a task asks for
+abbrev pub asking_row : TaskWord → Row (ℕ × Event)
+asking_row task.Claim = task_row (codes "claim") (frames ∷ []) (λ n. op.Claim (slice_index n 1))
+asking_row task.Release = task_row (codes "release") (frames ∷ []) (λ n. op.Release (slice_index n 1))
+asking_row task.Store =
+    task_row (codes "store") (frames ∷ words ∷ values ∷ [])
+    (λ n. op.Store (slice_index n 1) (slice_index n 2) (slice_index n 3))
+asking_row task.Show =
+    task_row (codes "show") (frames ∷ words ∷ []) (λ n. op.Show (slice_index n 1) (slice_index n 2))
+asking_row task.Cache = task_row (codes "cache") (frames ∷ []) (λ n. op.Cache (slice_index n 1))
+asking_row task.Out = task_row (codes "out") (frames ∷ []) (λ n. op.Out (slice_index n 1))
+asking_row task.In =
+    task_row (codes "in") (task_slots ∷ frames ∷ []) (λ n. op.TakeIn (slice_index n 1) (slice_index n 2))
+
+-- a row for each of these words
 abbrev pub machine_rows : List (Row (ℕ × Event))
 machine_rows =
-    event_row (codes "boot") [] (λ n. event.Boot Fresh)
-    ∷ saving_row (codes "hibernate") (λ format. event.Hibernate format)
-    ∷ saving_row (codes "suspend") (λ format. event.Suspend format)
-    ∷ event_row (codes "wake") [] (λ n. event.Wake)
-    ∷ event_row (codes "settle") [] (λ n. event.Settle)
-    ∷ event_row (codes "shrink") (values ∷ []) (λ n. event.Shrink (slice_index n 0))
-    ∷ resume_row
-    ∷ []
+    map machine_row
+    (machine.Boot ∷ machine.Hibernate ∷ machine.Suspend ∷ machine.Wake ∷ machine.Settle ∷ machine.Shrink
+    ∷ machine.Resume ∷ [])
 
 abbrev pub outside_rows : List (Row (ℕ × Event))
-outside_rows =
-    event_row (codes "cut") (values ∷ []) (λ n. event.Cut (slice_index n 0))
-    ∷ event_row (codes "arm") (span 1 1000000 ∷ span 0 1000000 ∷ values
-    ∷ []) (λ n. event.Arm (slice_index n 0) (slice_index n 1) (slice_index n 2))
-    ∷ step_row
-    ∷ core_row (codes "steps") (span 1 100000 ∷ []) (λ n. slice_index n 0)
-    ∷ []
+outside_rows = map outside_row (outside.Cut ∷ outside.Arm ∷ outside.Step ∷ outside.Steps ∷ [])
 
 abbrev pub core_rows : List (Row (ℕ × Event))
 core_rows = machine_rows ++ outside_rows
 
 abbrev pub task_rows : List (Row (ℕ × Event))
 task_rows =
-    task_row (codes "claim") (frames ∷ []) (λ n. op.Claim (slice_index n 1))
-    ∷ task_row (codes "release") (frames ∷ []) (λ n. op.Release (slice_index n 1))
-    ∷ task_row (codes "store") (frames ∷ words ∷ values
-    ∷ []) (λ n. op.Store (slice_index n 1) (slice_index n 2) (slice_index n 3))
-    ∷ task_row (codes "show") (frames ∷ words ∷ []) (λ n. op.Show (slice_index n 1) (slice_index n 2))
-    ∷ task_row (codes "cache") (frames ∷ []) (λ n. op.Cache (slice_index n 1))
-    ∷ task_row (codes "out") (frames ∷ []) (λ n. op.Out (slice_index n 1))
-    ∷ task_row (codes "in") (task_slots ∷ frames ∷ []) (λ n. op.TakeIn (slice_index n 1) (slice_index n 2))
-    ∷ []
+    map asking_row
+    (task.Claim ∷ task.Release ∷ task.Store ∷ task.Show ∷ task.Cache ∷ task.Out ∷ task.In ∷ [])
 
 abbrev pub event_rows : List (Row (ℕ × Event))
 event_rows = task_rows ++ core_rows

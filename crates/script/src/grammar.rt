@@ -10,6 +10,10 @@ ghost use Rattle.script.specs.Shapes.{actor_in, format_in, region_row, second_wo
 ghost use Rattle.plain_machine.specs.Fitting.{IsFittingActor};
 
 use crate::fault::FaultKind;
+use crate::first_words::{
+    MachineWord, OutsideWord, SettingWord, TaskWord, machine_word, outside_word, setting_word,
+    task_word,
+};
 use crate::ranges::ranges;
 use crate::words::{Span, numbers};
 use page_core::Format;
@@ -262,33 +266,35 @@ fn setting_of(first: &[u8], rest: &[&[u8]]) -> Result<Option<Setting>, FaultKind
     ensures says { result ≡ setting_in first.now (texts rest.now) }
     ensures fits { IfOk result (λ setting. IfSome setting IsFittingSetting) }
 {
-    match first {
-        b"zone" => {
+    let Some(word) = setting_word(first) else {
+        return Ok(None);
+    };
+    match word {
+        SettingWord::Zone => {
             let [start, count] = numbers(rest, [FRAME, FRAMES])?;
             Ok(Some(Setting::Zone(start as u32, count as u32)))
         }
-        b"area" => {
+        SettingWord::Area => {
             let [last] = numbers(rest, [LAST])?;
             Ok(Some(Setting::Last(last as u32)))
         }
-        b"bad" => {
+        SettingWord::Bad => {
             let [slot] = numbers(rest, [LAST])?;
             Ok(Some(Setting::Bad(slot as u32)))
         }
-        b"region" => Ok(Some(region(rest)?)),
-        b"tables" => {
+        SettingWord::Region => Ok(Some(region(rest)?)),
+        SettingWord::Tables => {
             let [frames, slots] = numbers(rest, [FRAME, FRAME])?;
             Ok(Some(Setting::Tables(frames as u32, slots as u32)))
         }
-        b"hwsig" => {
+        SettingWord::Hwsig => {
             let [signature] = numbers(rest, [SIGNATURE])?;
             Ok(Some(Setting::Signature(signature as u32)))
         }
-        b"extent" => {
+        SettingWord::Extent => {
             let [start, length, block] = numbers(rest, [SLOT, LENGTH, SLOT])?;
             Ok(Some(Setting::Extent(start as u32, length as u32, block as u32)))
         }
-        _ => Ok(None),
     }
 }
 
@@ -320,30 +326,32 @@ fn machine_events_of(first: &[u8], rest: &[&[u8]]) -> Result<Option<(u32, Event)
     ensures says { result ≡ machine_event_in first.now (texts rest.now) }
     ensures fits { IfOk result (λ events. IfSome events (λ e. IsFittingItem (Item.Events e.0 e.1))) }
 {
-    match first {
-        b"boot" => {
+    let Some(word) = machine_word(first) else {
+        return Ok(None);
+    };
+    match word {
+        MachineWord::Boot => {
             let [] = numbers(rest, [])?;
             Ok(Some((1, Event::Boot(BootFrom::Fresh))))
         }
-        b"hibernate" => Ok(Some((1, Event::Hibernate(format(rest)?)))),
-        b"suspend" => Ok(Some((1, Event::Suspend(format(rest)?)))),
-        b"wake" => {
+        MachineWord::Hibernate => Ok(Some((1, Event::Hibernate(format(rest)?)))),
+        MachineWord::Suspend => Ok(Some((1, Event::Suspend(format(rest)?)))),
+        MachineWord::Wake => {
             let [] = numbers(rest, [])?;
             Ok(Some((1, Event::Wake)))
         }
-        b"settle" => {
+        MachineWord::Settle => {
             let [] = numbers(rest, [])?;
             Ok(Some((1, Event::Settle)))
         }
-        b"shrink" => {
+        MachineWord::Shrink => {
             let [want] = numbers(rest, [VALUE])?;
             Ok(Some((1, Event::Shrink(want))))
         }
-        b"resume" => {
+        MachineWord::Resume => {
             let loader = Loader::Ranges(ranges(rest)?);
             Ok(Some((1, Event::Resume(loader, IdentCheck::Compare))))
         }
-        _ => Ok(None),
     }
 }
 
@@ -353,22 +361,24 @@ fn outside_events_of(first: &[u8], rest: &[&[u8]]) -> Result<Option<(u32, Event)
     ensures says { result ≡ outside_event_in first.now (texts rest.now) }
     ensures fits { IfOk result (λ events. IfSome events (λ e. IsFittingItem (Item.Events e.0 e.1))) }
 {
-    match first {
-        b"cut" => {
+    let Some(word) = outside_word(first) else {
+        return Ok(None);
+    };
+    match word {
+        OutsideWord::Cut => {
             let [pick] = numbers(rest, [VALUE])?;
             Ok(Some((1, Event::Cut(pick))))
         }
-        b"arm" => {
+        OutsideWord::Arm => {
             let [call, calls, pick] = numbers(rest, [CALL, CALLS, VALUE])?;
             let (first, count) = (call as u32, calls as u32);
             Ok(Some((1, Event::Arm { first, count, pick })))
         }
-        b"step" => Ok(Some((1, Event::Step(actor(rest)?)))),
-        b"steps" => {
+        OutsideWord::Step => Ok(Some((1, Event::Step(actor(rest)?)))),
+        OutsideWord::Steps => {
             let [n] = numbers(behind(b"core", rest)?, [STEPS])?;
             Ok(Some((n as u32, Event::Step(Actor::Core))))
         }
-        _ => Ok(None),
     }
 }
 
@@ -378,35 +388,37 @@ fn task_event_of(first: &[u8], rest: &[&[u8]]) -> Result<Option<(u32, Event)>, F
     ensures says { result ≡ task_event_in first.now (texts rest.now) }
     ensures fits { IfOk result (λ events. IfSome events (λ e. IsFittingItem (Item.Events e.0 e.1))) }
 {
-    match first {
-        b"claim" => {
+    let Some(word) = task_word(first) else {
+        return Ok(None);
+    };
+    match word {
+        TaskWord::Claim => {
             let [t, p] = numbers(rest, [TASK, FRAME])?;
             Ok(Some(task(t, TaskOp::Claim(p as u32))))
         }
-        b"release" => {
+        TaskWord::Release => {
             let [t, p] = numbers(rest, [TASK, FRAME])?;
             Ok(Some(task(t, TaskOp::Release(p as u32))))
         }
-        b"store" => {
+        TaskWord::Store => {
             let [t, p, k, v] = numbers(rest, [TASK, FRAME, WORD, VALUE])?;
             Ok(Some(task(t, TaskOp::Store(p as u32, k as u32, v))))
         }
-        b"show" => {
+        TaskWord::Show => {
             let [t, p, k] = numbers(rest, [TASK, FRAME, WORD])?;
             Ok(Some(task(t, TaskOp::Show(p as u32, k as u32))))
         }
-        b"cache" => {
+        TaskWord::Cache => {
             let [t, p] = numbers(rest, [TASK, FRAME])?;
             Ok(Some(task(t, TaskOp::Cache(p as u32))))
         }
-        b"out" => {
+        TaskWord::Out => {
             let [t, p] = numbers(rest, [TASK, FRAME])?;
             Ok(Some(task(t, TaskOp::Out(p as u32))))
         }
-        b"in" => {
+        TaskWord::In => {
             let [t, slot, p] = numbers(rest, [TASK, TASK_SLOT, FRAME])?;
             Ok(Some(task(t, TaskOp::TakeIn(slot as u32, p as u32))))
         }
-        _ => Ok(None),
     }
 }

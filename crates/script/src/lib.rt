@@ -3,9 +3,11 @@
 
 mod drill;
 mod fault;
+mod first_words;
 mod grammar;
 mod ident;
 mod lines;
+mod phrases;
 mod ranges;
 mod reading;
 mod replies;

@@ -1,7 +1,9 @@
 ghost use Rattle.std.specs.Prelude.{◌≡◌, ◌+◌, ◌≤◌, ◌++◌, length, codes, decimal};
-ghost use Rattle.plain_machine.specs.Replies.{call_text, field_text, left_text, line_of, one, reply_text, two};
+ghost use Rattle.plain_machine.specs.Replies.{call_text, field_text, left_text, line_of, one, two};
 ghost use Rattle.plain_machine.specs.Replies.{booted_text};
+ghost use Rattle.script.specs.Phrases.{IsShort, phrase_text};
 
+use crate::phrases::{Phrase, phrase_of};
 use crate::texts::put_no_swap;
 use byte_streams::Line;
 use definitions::Field;
@@ -12,79 +14,28 @@ pub fn line_of(reply: &Reply, line: &mut Line)
     requires { length line.old ≡ 0 }
     ensures { line.new ≡ line_of reply.now }
 {
-    put_reply(line, reply);
+    put_phrase(line, phrase_of(reply));
     line.put(b"\n");
 }
 
-/// Adds the text of a reply.
-#[tactic(auto, unfolding(plain_machine::specs::Replies::reply_text))]
-fn put_reply(line: &mut Line, reply: &Reply)
-    requires { length line.old ≡ 0 }
-    ensures text { line.new ≡ reply_text reply.now }
+/// Writes what a phrase is.
+fn put_phrase(line: &mut Line, phrase: Phrase<'_>)
+    requires empty { length line.old ≡ 0 }
+    requires short { IsShort phrase }
+    ensures text { line.new ≡ phrase_text phrase.entry }
     ensures len { length line.new ≤ 160 }
 {
-    match reply {
-        Reply::Done => line.put(b"ok"),
-        Reply::More { k, of } => put_two(line, b"more ", *k, b" of ", *of),
-        Reply::Booted { image } => put_booted(line, *image),
-        Reply::Word { value } => put_one(line, b"word ", *value),
-        Reply::Slot { slot } => put_one(line, b"slot ", u64::from(*slot)),
-        Reply::Written { slot } => put_one(line, b"written ", u64::from(*slot)),
-        Reply::Reading { slot } => put_one(line, b"reading ", u64::from(*slot)),
-        Reply::Fetched { slot } => put_one(line, b"read ", u64::from(*slot)),
-        Reply::Hibernated { n } => put_one(line, b"hibernated ", u64::from(*n)),
-        Reply::Undo { call, k } => put_undo(line, *call, *k),
-        Reply::Settled => line.put(b"settled"),
-        Reply::Loading { k } => put_one(line, b"loading ", u64::from(*k)),
-        Reply::Resumed { n } => put_one(line, b"resumed ", u64::from(*n)),
-        Reply::WasCut => line.put(b"cut"),
-        Reply::Idle => line.put(b"idle"),
-        Reply::NotOff => line.put(b"not off"),
-        Reply::NotOn => line.put(b"not on"),
-        Reply::NoDump => line.put(b"no dump"),
-        Reply::Frozen => line.put(b"frozen"),
-        Reply::InFlight => line.put(b"in flight"),
-        Reply::NoFrame => line.put(b"no frame"),
-        Reply::NotFree => line.put(b"not free"),
-        Reply::NotOwner => line.put(b"not owner"),
-        Reply::Closed => line.put(b"closed"),
-        Reply::NoSlot => line.put(b"no slot"),
-        Reply::NoSlotHere => line.put(b"no slot here"),
-        Reply::NothingHeld => line.put(b"nothing held"),
-        Reply::Busy { task } => put_one(line, b"busy ", u64::from(*task)),
-        Reply::NoSwap { why } => put_no_swap(line, why),
-        Reply::NoFrames { free, need } => put_two(line, b"no frames ", *free, b" need ", *need),
-        Reply::NoSlots { free, need } => put_two(line, b"no slots ", *free, b" need ", *need),
-        Reply::NoImage => line.put(b"no image"),
-        Reply::Compressed { flags } => put_one(line, b"compressed ", u64::from(*flags)),
-        Reply::HwMismatch { image, own } => put_two(line, b"hardware ", *image, b" own ", *own),
-        Reply::NoChain => line.put(b"no chain"),
-        Reply::BadBlock { block } => put_one(line, b"bad block ", *block),
-        Reply::ChainEnds { map } => put_one(line, b"chain ends ", u64::from(*map)),
-        Reply::Mismatch { field } => put_mismatch(line, *field),
-        Reply::MemorySize { image, own } => put_wide(line, b"memory size ", *image, b" own ", *own),
-        Reply::BadCounts { image_pages, pages } => put_wide(
-            line,
-            b"bad counts ",
-            *image_pages,
-            b" ",
-            *pages,
-        ),
-        Reply::BadPfn { pfn } => put_one(line, b"bad pfn ", *pfn),
-        Reply::PfnOrder { a, b } => put_wide(line, b"pfn order ", *a, b" ", *b),
-        Reply::PfnEnd { found } => put_one(line, b"pfn end ", *found),
-        Reply::TooFewLoaderFrames { have, need } => {
-            put_two(line, b"too few loader frames ", *have, b" need ", *need)
-        }
-        Reply::BadTables { frame } => put_one(line, b"bad tables ", u64::from(*frame)),
-        Reply::ReadFault { left } => put_fault(line, b"read fault ", *left),
-        Reply::WriteFault { left } => put_fault(line, b"write fault ", *left),
-        Reply::SyncFault { left } => put_fault(line, b"sync fault ", *left),
-        Reply::Sleeping => line.put(b"sleeping"),
-        Reply::Asleep { n } => put_one(line, b"asleep ", u64::from(*n)),
-        Reply::NotAsleep => line.put(b"not asleep"),
-        Reply::Woken => line.put(b"woken"),
-        Reply::Shrunk { dropped, left } => put_two(line, b"shrunk ", *dropped, b" left ", *left),
+    match phrase {
+        Phrase::Words(words) => line.put(words),
+        Phrase::One(name, n) => put_one(line, name, u64::from(n)),
+        Phrase::Wide(name, n) => put_one(line, name, n),
+        Phrase::Two(name, m, between, n) => put_two(line, name, m, between, n),
+        Phrase::WideTwo(name, m, between, n) => put_wide(line, name, m, between, n),
+        Phrase::Booted(image) => put_booted(line, image),
+        Phrase::Undo(call, k) => put_undo(line, call, k),
+        Phrase::NoSwap(why) => put_no_swap(line, why),
+        Phrase::Mismatch(field) => put_mismatch(line, field),
+        Phrase::Fault(name, left) => put_fault(line, name, left),
     }
 }
 

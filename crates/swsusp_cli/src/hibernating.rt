@@ -15,19 +15,27 @@ use script::line_of;
 use sector_disk::Disk;
 use std::alloc::Global;
 
+/// What a hibernation is asked for.
+#[derive(Clone, Copy)]
+pub struct Wanted {
+    /// Whether pages of zeros are left out.
+    pub format: Format,
+    /// How many saveable page frames are to be left; cached ones are dropped for it. None: none is dropped.
+    pub size: Option<u64>,
+}
+
 /// Reads a dump to its end, and lets its machine hibernate; before, its cached page frames are dropped until so many
 /// saveable ones are left, where a size is asked for.
 #[inline(never)]
 pub fn hibernate_dump<I: Source, O: Sink, N: Sink, D: Disk>(
     alloc: Global,
-    format: Format,
-    size: Option<u64>,
+    wanted: Wanted,
     input: &mut I,
     out: &mut O,
     note: &mut N,
     disk: &mut D,
 ) -> Status
-    ensures outcome { Hibernates D.Disk disk.old disk.new format size
+    ensures outcome { Hibernates D.Disk disk.old disk.new wanted.format wanted.size
         (view I.Source O.Sink N.Sink D.Disk input.old out.old note.old disk.old)
         (view I.Source O.Sink N.Sink D.Disk input.new out.new note.new disk.new) result }
     ensures stream { result ≡ Status.Stream → HasRisen (I.faults input.old) (I.faults input.new)
@@ -43,7 +51,7 @@ pub fn hibernate_dump<I: Source, O: Sink, N: Sink, D: Disk>(
         Ok(world) => world,
         Err(NoMemory) => return no_memory().tell(out, note),
     };
-    let ended = hibernate(&mut world, disk, format, size);
+    let ended = hibernate(&mut world, disk, wanted.format, wanted.size);
     hibernation_answer(&ended).tell(out, note)
 }
 

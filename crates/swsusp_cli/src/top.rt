@@ -7,7 +7,7 @@ ghost use Rattle.swsusp_cli.specs.Theorem.{Promise};
 
 use crate::drilling::drill;
 use crate::exporting::export_dump;
-use crate::hibernating::hibernate_dump;
+use crate::hibernating::{Wanted, hibernate_dump};
 use crate::importing::import_stream;
 use crate::inspection::inspect;
 use crate::replay::replay;
@@ -34,7 +34,7 @@ pub fn run<I: Source, O: Sink, N: Sink, D: Disk>(
     match Command::parse(alloc, words) {
         Ok(Command::Inspect { offset, .. }) => inspect(disk, offset).tell(out, note),
         Ok(Command::Hibernate { format, size, .. }) => {
-            hibernate_dump(alloc, format, size, input, out, note, disk)
+            hibernate_dump(alloc, Wanted { format, size }, input, out, note, disk)
         }
         Ok(Command::Resume { check, .. }) => resume_dump(alloc, check, input, out, note, disk),
         Ok(Command::Replay) => replay(alloc, input, out, note, disk),

@@ -12,8 +12,8 @@ use Rattle.command_laws.specs.Hibernations.{EndsInFault}
 abbrev pub IsLoading : Reply → Type 0
 IsLoading r = (k : ℕ) × (r ≡ reply.Loading k)
 
-abbrev pub HasResumed : Reply → Type 0
-HasResumed r = (n : ℕ) × (r ≡ reply.Resumed n)
+abbrev pub AnswersResumed : Reply → Type 0
+AnswersResumed r = (n : ℕ) × (r ≡ reply.Resumed n)
 
 abbrev pub NamesTooFewFrames : Reply → Type 0
 NamesTooFewFrames r = (free : ℕ) × (need : ℕ) × (r ≡ reply.TooFewLoaderFrames free need)
@@ -34,5 +34,5 @@ disk_found v (found_other w) (suc (suc k)) = w
 -- it goes on, or ends so
 abbrev pub NamesItsEnd : Hardware → disk.DiskImage → Load → ℕ → Reply → Type 0
 NamesItsEnd h v load k r =
-    IsLoading r ⊎ HasResumed r ⊎ EndsInFault r ⊎ NamesTooFewFrames r
+    IsLoading r ⊎ AnswersResumed r ⊎ EndsInFault r ⊎ NamesTooFewFrames r
     ⊎ NamesBytes h load (disk_found v load.found k) r

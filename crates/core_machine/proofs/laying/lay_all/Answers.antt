@@ -8,7 +8,7 @@ use Rattle.core_segments.specs.declared.segment.Segment.{Segment}
 use Rattle.core_segments.proofs.Opened.{SegmentRight, first_right}
 use Rattle.core_machine.specs.Laid.{IsLaidUpTo, LiesBelow}
 use Rattle.core_machine.specs.Made.{end_after, frames_in, saved_of}
-use Rattle.core_machine.proofs.Lying.{lies_above, saved_more, saved_none}
+use Rattle.core_machine.proofs.Lying.{lies_above, same_later, saved_more, saved_none}
 use Rattle.core_machine.proofs.Places.{drop_more, end_above, ends_next, ends_none, places_above, stops_in_later}
 use Rattle.core_machine.proofs.laying.lay_all.Goals as goal
 use Rattle.image_machine.specs.declared.filled.FilledPlan.{FilledPlan}
@@ -50,9 +50,7 @@ loop-segment-init g c = record {
   };
   ends = refl;
   left = λ bytes r. r;
-  heading = refl;
-  layout = refl;
-  zones = refl;
+  same = record { heading = refl; layout = refl; zones = refl };
   counted = omega arith;
 }
 
@@ -73,7 +71,7 @@ lay_segment-requires-clause-filled g c = (
 pub lay_segment-requires-clause-zone : goal.lay_segment-requires-clause-zone
 lay_segment-requires-clause-zone g c = (
   frames_in c.args.segments.now,
-  c.loop-segment.invariant.zones ∙ c.requires.zone,
+  c.loop-segment.invariant.same.zones ∙ c.requires.zone,
   (next_of c.loop-segment.filled c.loop-segment.place (frames_in c.args.segments.now) c.args.segments.now c.loop-segment.segment-index _ c.loop-segment-test.true c.loop-segment.invariant.laid).within,
 )
 
@@ -117,9 +115,7 @@ loop-segment-preserved g c =
           ap (λ (k : ℕ). places_end k rest) now_is
           ∙ sym (ap (places_end place) (drop_more segments i c.loop-segment-test.true) ∙ ends_next place s rest) ∙ c.loop-segment.invariant.ends;
       left = λ bytes r. c.in_ok-place.ensures.left bytes (c.loop-segment.invariant.left bytes r);
-      heading = c.lay_segment.ensures.heading ∙ c.loop-segment.invariant.heading;
-      layout = c.lay_segment.ensures.layout ∙ c.loop-segment.invariant.layout;
-      zones = c.lay_segment.ensures.zones ∙ c.loop-segment.invariant.zones;
+      same = same_later c.loop-segment.invariant.same c.lay_segment.ensures.same;
       counted = omega (arith, c.loop-segment.invariant.counted, c.lay_segment.ensures.counted);
     }
 

@@ -1,7 +1,7 @@
 use Rattle.std.proofs.Common.{◌≡◌, ◌≤◌, ℕ, List, drop, take}
 use Rattle.core_segments.specs.Pages.{places_end}
 use Rattle.core_segments.specs.Reading.{IsReadTo}
-use Rattle.core_machine.specs.Laid.{IsLaidUpTo}
+use Rattle.core_machine.specs.Laid.{IsLaidUpTo, IsSamePlan}
 use Rattle.core_machine.specs.Made.{frames_in, saved_of}
 use Rattle.core_machine.proofs.laying.lay_all.Given as goal
 
@@ -10,8 +10,6 @@ invariant-loop-segment g l = record {
   laid : IsLaidUpTo l.filled l.place (frames_in l.segments) (drop l.segment-index l.segments) (λ saved. (bytes : List ℕ) → IsReadTo bytes l.fn.place (g.S.Source.remaining l.fn.source) → saved ≡ saved_of bytes (take l.segment-index l.segments));
   ends : places_end l.place (drop l.segment-index l.segments) ≡ places_end l.fn.place l.segments;
   left : (bytes : List ℕ) → IsReadTo bytes l.fn.place (g.S.Source.remaining l.fn.source) → IsReadTo bytes l.place (g.S.Source.remaining l.source);
-  heading : l.filled.plan.heading ≡ l.fn.filled.plan.heading;
-  layout : l.filled.plan.layout ≡ l.fn.filled.plan.layout;
-  zones : l.filled.plan.zones ≡ l.fn.filled.plan.zones;
+  same : IsSamePlan l.fn.filled l.filled;
   counted : g.S.Source.faults l.fn.source ≤ g.S.Source.faults l.source;
 }

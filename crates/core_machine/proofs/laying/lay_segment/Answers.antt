@@ -1,7 +1,7 @@
 use Rattle.std.proofs.Common.{◌≡◌, ◌≤◌, ◌+◌, ℕ, List, ◌++◌, ◌∷◌, [], filter, arith, ap, ◌∙◌}
 use Rattle.core_segments.specs.Segments.{first_frame, frame_end}
 use Rattle.core_machine.specs.Made.{holds_bytes}
-use Rattle.core_machine.proofs.Lying.{front_more, front_of, in_zone, laid_more, lies_above}
+use Rattle.core_machine.proofs.Lying.{front_more, front_of, in_zone, laid_more, lies_above, same_later}
 use Rattle.core_machine.proofs.Places.{at_end, at_next, before_page, near, sized}
 use Rattle.core_machine.proofs.laying.lay_segment.Goals as goal
 
@@ -20,7 +20,7 @@ pub lay_page-requires-clause-valid : goal.lay_page-requires-clause-valid
 lay_page-requires-clause-valid g c =
     let n = c.requires.zone.0 in
     let le = c.requires.zone.2 in
-    in_zone n c.loop-frame.frame c.loop-frame.filled.plan.zones (c.loop-frame.invariant.zones ∙ c.requires.zone.1)
+    in_zone n c.loop-frame.frame c.loop-frame.filled.plan.zones (c.loop-frame.invariant.same.zones ∙ c.requires.zone.1)
     (omega (arith, le, c.loop-frame-test.true, c.frame_end-end.ensures.frame))
 
 pub loop-frame-preserved : goal.loop-frame-preserved
@@ -41,9 +41,7 @@ loop-frame-preserved g c =
           };
       at = at_next s c.args.place c.loop-frame.place c.in_ok-place.place frame ge i.at c.in_ok-place.ensures.place;
       left = λ bytes r. c.in_ok-place.ensures.left bytes (i.left bytes r);
-      heading = c.lay_page.ensures.heading ∙ i.heading;
-      layout = c.lay_page.ensures.layout ∙ i.layout;
-      zones = c.lay_page.ensures.zones ∙ i.zones;
+      same = same_later i.same c.lay_page.ensures.same;
       counted = omega (arith, i.counted, c.read_page.ensures.counted);
     }
 

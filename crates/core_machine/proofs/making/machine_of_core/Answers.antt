@@ -52,11 +52,11 @@ returns-in_err-machine-clause-lacks g c =
     let heading = heading_is bytes c.args.slots c.heading_of-heading.result c.in_ok-core.core.ident c.frames_in.result c.deref.result.now c.heading_of-heading.ensures
     is.ident c.frames_in.ensures (c.deref.ensures.value ∙ is.segments) in
     let laid = c.in_ok-lay_all.ensures.laid in
-    let plain : IsPlain plan.layout = subst IsPlain (sym (c.lay_all.ensures.layout ∙ c.in_ok-filled.ensures.layout)) c.plain_layout-layout.ensures in
+    let plain : IsPlain plan.layout = subst IsPlain (sym (c.lay_all.ensures.same.layout ∙ c.in_ok-filled.ensures.layout)) c.plain_layout-layout.ensures in
     let right = core_right bytes (places_end place segments) is.no_fault (end_is bytes place segments is.place (c.deref-2.ensures.value ∙ is.segments))
     (c.in_ok-lay_all.ensures.whole bytes here) in
     lacks_at_last bytes c.args.slots plan.layout plan.heading segments laid.saved c.in_err-machine.field-0.0 plain right
-    (c.lay_all.ensures.heading ∙ c.in_ok-filled.ensures.heading ∙ heading) (laid.are bytes here) (c.deref-2.ensures.value ∙ is.segments)
+    (c.lay_all.ensures.same.heading ∙ c.in_ok-filled.ensures.heading ∙ heading) (laid.are bytes here) (c.deref-2.ensures.value ∙ is.segments)
     (c.in_err-machine.ensures.passed laid.saved laid.has))
 
 pub returns-clause-dump : goal.returns-clause-dump
@@ -69,11 +69,11 @@ returns-clause-dump g c = λ bytes e.
     let heading = heading_is bytes c.args.slots c.heading_of-heading.result c.in_ok-core.core.ident c.frames_in.result c.deref.result.now c.heading_of-heading.ensures
     is.ident c.frames_in.ensures (c.deref.ensures.value ∙ is.segments) in
     let laid = c.in_ok-lay_all.ensures.laid in
-    let plain : IsPlain plan.layout = subst IsPlain (sym (c.lay_all.ensures.layout ∙ c.in_ok-filled.ensures.layout)) c.plain_layout-layout.ensures in
+    let plain : IsPlain plan.layout = subst IsPlain (sym (c.lay_all.ensures.same.layout ∙ c.in_ok-filled.ensures.layout)) c.plain_layout-layout.ensures in
     let right = core_right bytes (places_end place segments) is.no_fault (end_is bytes place segments is.place (c.deref-2.ensures.value ∙ is.segments))
     (c.in_ok-lay_all.ensures.whole bytes here) in
     made bytes c.args.slots plan.layout plan.heading segments laid.saved c.in_ok-machine.field-0 plain right
-    (c.lay_all.ensures.heading ∙ c.in_ok-filled.ensures.heading ∙ heading) (laid.are bytes here) (c.deref-2.ensures.value ∙ is.segments)
+    (c.lay_all.ensures.same.heading ∙ c.in_ok-filled.ensures.heading ∙ heading) (laid.are bytes here) (c.deref-2.ensures.value ∙ is.segments)
     (c.in_ok-machine.ensures.machine laid.saved laid.has)
 
 pub lay_all-requires-clause-zone : goal.lay_all-requires-clause-zone

@@ -64,9 +64,9 @@ returns-clause-shown g c =
     on_ok_then c.print_frames.result
     (λ frames.
     let same_limits : ShowsFrames true l c.args.again.now.walker.walk.next (g.D.Disk.content c.print_blocks.new.disk) then now c.args.format frames.0 =
-    subst (λ (x : Limits). ShowsFrames true x c.args.again.now.walker.walk.next (g.D.Disk.content c.print_blocks.new.disk) then now c.args.format frames.0) c.requires.same frames.1.0 in
+    subst (λ (x : Limits). ShowsFrames true x c.args.again.now.walker.walk.next (g.D.Disk.content c.print_blocks.new.disk) then now c.args.format frames.0) c.requires.same.0 frames.1.0 in
     let same_first : ShowsFrames true l first (g.D.Disk.content c.print_blocks.new.disk) then now c.args.format frames.0 =
-    subst (λ n. ShowsFrames true l n (g.D.Disk.content c.print_blocks.new.disk) then now c.args.format frames.0) c.requires.same_first same_limits in
+    subst (λ n. ShowsFrames true l n (g.D.Disk.content c.print_blocks.new.disk) then now c.args.format frames.0) c.requires.same.1 same_limits in
     let same_content : ShowsFrames true l first content then now c.args.format frames.0 =
     subst (λ (x : Option Content). ShowsFrames true l first x then now c.args.format frames.0) c.print_blocks.ensures.content same_first in (
       blocks ++ frames.0,
@@ -100,9 +100,9 @@ returns-clause-front g c =
     let whole : Bool = frames.0 in
     let says : List Fact = frames.1.0 in
     let same_limits : ShowsFrames whole l c.args.again.now.walker.walk.next (g.D.Disk.content c.print_blocks.new.disk) then now c.args.format says =
-    subst (λ (x : Limits). ShowsFrames whole x c.args.again.now.walker.walk.next (g.D.Disk.content c.print_blocks.new.disk) then now c.args.format says) c.requires.same frames.1.1.0 in
+    subst (λ (x : Limits). ShowsFrames whole x c.args.again.now.walker.walk.next (g.D.Disk.content c.print_blocks.new.disk) then now c.args.format says) c.requires.same.0 frames.1.1.0 in
     let same_first : ShowsFrames whole l first (g.D.Disk.content c.print_blocks.new.disk) then now c.args.format says =
-    subst (λ n. ShowsFrames whole l n (g.D.Disk.content c.print_blocks.new.disk) then now c.args.format says) c.requires.same_first same_limits in
+    subst (λ n. ShowsFrames whole l n (g.D.Disk.content c.print_blocks.new.disk) then now c.args.format says) c.requires.same.1 same_limits in
     let same_content : ShowsFrames whole l first content then now c.args.format says =
     subst (λ (x : Option Content). ShowsFrames whole l first x then now c.args.format says) c.print_blocks.ensures.content same_first in (
       blocks ++ says,

@@ -38,6 +38,6 @@ returns-clause-outcome g c =
       machine = subst IsHardware made.is made.hardware;
       told = subst (λ (t : RunResult). IsTold t tell.result out (record { taken = g.O.Sink.taken tell.new.out; flushed = g.O.Sink.flushed tell.new.out; faults = g.O.Sink.faults tell.new.out }) note (record { taken = g.N.Sink.taken tell.new.note; flushed = g.N.Sink.flushed tell.new.note; faults = g.N.Sink.faults tell.new.note })) c.hibernation_answer.ensures.told tell.ensures.told;
       shown = shown ended.new.world;
-      ran = ran_as g.D.Disk (IsHibernation c.args.format c.args.size ended.result) _ dump.hw _ dump.memory _ c.args.disk.now ended.new.disk made.is made.frames ended.ensures.ran;
+      ran = ran_as g.D.Disk (IsHibernation c.args.wanted.format c.args.wanted.size ended.result) _ dump.hw _ dump.memory _ c.args.disk.now ended.new.disk made.is made.frames ended.ensures.ran;
       orders = ended.ensures.orders;
     })
