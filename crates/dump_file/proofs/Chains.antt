@@ -34,7 +34,7 @@ or_this : DumpFault → Option DumpFault → DumpFault
 or_this g None = g
 or_this g (Some f) = f
 
-named_is : (g f : DumpFault) → Some g ≡ Some f → g ≡ f
+pub named_is : (g f : DumpFault) → Some g ≡ Some f → g ≡ f
 unfolding or_this
 named_is g f e = ap (or_this g) e
 

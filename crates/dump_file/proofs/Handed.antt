@@ -1,5 +1,5 @@
 -- Bytes that a source hands out, where they are told.
-use Rattle.std.proofs.Common.{◌≡◌, ℕ, ◌+◌, ◌≤◌, List, [], ◌++◌, length, take, drop, Option, Some, None, sym, ap, ◌∙◌, length-append, subst, arith}
+use Rattle.std.proofs.Common.{◌≡◌, ℕ, ◌+◌, ◌≤◌, List, [], length, take, drop, Option, Some, None, sym, ap, ◌∙◌, length-append, subst, arith}
 use Rattle.std.proofs.lemmas.List.{take_at, drop_at, drop-drop, length-take-le, length-drop}
 use Rattle.definitions.specs.Bytes.{bytes_at}
 use Rattle.definitions.specs.Streams.{HandsOut, IsUsedUp}

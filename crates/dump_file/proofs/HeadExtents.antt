@@ -4,7 +4,7 @@ use Rattle.std.proofs.lemmas.Bool.{cases_Bool}
 use Rattle.std.proofs.lemmas.List.FromFn.{get_or-map-range_with_len, length-map-range_with_len}
 use Rattle.std.specs.List.{range_with_len}
 use Rattle.definitions.specs.Slots.{extent_end, slots_before, slots_of}
-use Rattle.definitions.specs.FileMaps.{IsExtentFault, IsFileMap, IsInOrder, LieApart}
+use Rattle.definitions.specs.FileMaps.{IsInOrder, LieApart}
 use Rattle.definitions.specs.Slots as slot
 use Rattle.machine.specs.HardFault.{is_extent}
 use Rattle.dump_file.specs.Dump.{cover_fault, extents_fault, unless, wanted}

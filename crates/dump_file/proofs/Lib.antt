@@ -1,6 +1,7 @@
 pub mod Chains
 pub mod Contents
 pub mod Dumps
+pub mod Enough
 pub mod ExtentFaults
 pub mod Fronts
 pub mod Handed

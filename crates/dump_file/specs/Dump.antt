@@ -1,7 +1,7 @@
 -- What is a dump, and the first fault of bytes that are none. Faults are told as they come up in reading: each field is
 -- tested when it has been read, a record's page frame number before its content.
-use Rattle.std.specs.Prelude.{ℕ, ◌+◌, ◌-◌, ◌==◌, ◌&&◌, ◌||◌, nat_lt, nat_le, Bool, true, zero, suc, List, [], ◌∷◌}
-use Rattle.std.specs.Prelude.{length, map, Option, Some, None, Result, Ok, Err, if◌then◌else◌}
+use Rattle.std.specs.Prelude.{◌≡◌, ◌⊎◌, ◌≤◌, ℕ, ◌+◌, ◌-◌, ◌==◌, ◌&&◌, ◌||◌, nat_lt, nat_le, Bool, true, zero, suc, List}
+use Rattle.std.specs.Prelude.{[], ◌∷◌, drop, length, map, Option, Some, None, Result, Ok, Err, if◌then◌else◌}
 use Rattle.std.specs.List.{range_with_len}
 use Rattle.definitions.specs.Slots.{extent_at, slots_of}
 use Rattle.definitions.specs.Zones.{numbers, top}
@@ -142,3 +142,12 @@ dump_unless (Some fault) bytes = Err fault
 -- the grammar of dumps
 unfoldable pub dump_of : List ℕ → Result DumpValue DumpFault
 dump_of bytes = dump_unless (dump_fault bytes) bytes
+
+-- How far bytes that are refused for this fault are read: to no more than what may stand before the records, at most
+-- 1332 bytes, or to 4 bytes from the fault's place on, since a number is read before it is looked at. Only a table
+-- frame is looked at when all was read.
+pub record IsReadWithin (bytes : List ℕ) (f : DumpFault) (left : Option (List ℕ)) : Type 0 where
+  pub k : ℕ
+  pub within : k ≤ length bytes
+  pub rest : left ≡ Some (drop k bytes)
+  pub bound : (k ≤ 1332) ⊎ (k ≤ f.at + 4) ⊎ (f.kind ≡ Tables)

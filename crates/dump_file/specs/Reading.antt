@@ -6,7 +6,6 @@ use Rattle.plain_machine.specs.Machine.{Hardware}
 use Rattle.zones.specs.declared.fault.ZoneFault.{ZoneFault}
 use Rattle.zones.specs.declared.fault.ZoneFault.TheVariants.{NoZone, TooMany, Empty, TooLarge, Overlap}
 use Rattle.dump_file.specs.Dump.{head_fault}
-use Rattle.dump_file.specs.Dump as at
 use Rattle.dump_file.specs.Fields as at_fields
 
 -- a source has handed out a whole text

@@ -2,7 +2,7 @@ ghost use Rattle.std.specs.Prelude.{◌≡◌, ◌+◌, ◌^◌, ◌≤◌, ◌<
 ghost use Rattle.definitions.specs.Bytes.{bytes_at};
 ghost use Rattle.definitions.specs.Disk.{HasRisen};
 ghost use Rattle.definitions.specs.Streams.{HandsOut, IsUsedUp};
-ghost use Rattle.dump_file.specs.Dump.{wanted};
+ghost use Rattle.dump_file.specs.Dump.{IsReadWithin, wanted};
 ghost use Rattle.dump_file.specs.Fields.{number};
 ghost use Rattle.dump_file.specs.Reading.{IsReadTo};
 
@@ -20,6 +20,8 @@ pub(crate) fn take_exact<S: Source>(
     requires small { length piece.old ≤ 4096 }
     ensures short { (bytes : List ℕ) (f : DumpFault) → IsReadTo bytes at (S.remaining source.old) →
         result ≡ Err (DumpStop.Fault f) → wanted bytes (at + length piece.old) ≡ Some f }
+    ensures enough { (bytes : List ℕ) (f : DumpFault) → IsReadTo bytes at (S.remaining source.old) →
+        result ≡ Err (DumpStop.Fault f) → IsReadWithin bytes f (S.remaining source.new) }
     ensures whole { (bytes : List ℕ) → IsReadTo bytes at (S.remaining source.old) → IsOk result →
         wanted bytes (at + length piece.old) ≡ None }
     ensures piece { (bytes : List ℕ) → IsReadTo bytes at (S.remaining source.old) → IsOk result →
@@ -42,6 +44,8 @@ pub(crate) fn read_number<S: Source>(source: &mut S, at: u64) -> Result<u32, Dum
     requires { at ≤ 2 ^ 48 }
     ensures short { (bytes : List ℕ) (f : DumpFault) → IsReadTo bytes at (S.remaining source.old) →
         result ≡ Err (DumpStop.Fault f) → wanted bytes (at + 4) ≡ Some f }
+    ensures enough { (bytes : List ℕ) (f : DumpFault) → IsReadTo bytes at (S.remaining source.old) →
+        result ≡ Err (DumpStop.Fault f) → IsReadWithin bytes f (S.remaining source.new) }
     ensures whole { (bytes : List ℕ) → IsReadTo bytes at (S.remaining source.old) → IsOk result →
         wanted bytes (at + 4) ≡ None }
     ensures number { IfOk result (λ n. (bytes : List ℕ) → IsReadTo bytes at (S.remaining source.old) →

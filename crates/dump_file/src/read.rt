@@ -1,10 +1,10 @@
-ghost use Rattle.std.specs.Prelude.{◌≡◌, ◌≢◌, ℕ, ◌≤◌, List, [], Some, None, Ok, Err, length, nat_le, IsTrue, IsOk};
-ghost use Rattle.std.specs.Prelude.{IfOk};
+ghost use Rattle.std.specs.Prelude.{◌≡◌, ◌≢◌, ℕ, ◌+◌, ◌≤◌, List, [], Some, None, Ok, Err, length, nat_le, IsTrue};
+ghost use Rattle.std.specs.Prelude.{IsOk, IfOk, if◌then◌else◌};
 ghost use Rattle.definitions.specs.Disk.{HasRisen};
 ghost use Rattle.definitions.specs.Streams.{IsUsedUp};
 ghost use Rattle.definitions.specs.Zones.{top};
 ghost use Rattle.plain_machine.specs.Machine.{Fits};
-ghost use Rattle.dump_file.specs.Dump.{body_fault, dump_of, head_fault};
+ghost use Rattle.dump_file.specs.Dump.{IsReadWithin, body_fault, dump_of, head_fault};
 ghost use Rattle.dump_file.specs.Fields.{contents, hardware, first_record, record_count};
 ghost use Rattle.dump_file.specs.Reading.{IsHeader, IsReadTo};
 
@@ -26,6 +26,8 @@ pub fn read_dump<S: Source>(alloc: Global, source: &mut S) -> Result<Dump, DumpS
     ensures end { IsOk result → IsUsedUp (S.remaining source.new) }
     ensures fault { (bytes : List ℕ) (f : DumpFault) → S.remaining source.old ≡ Some bytes →
         result ≡ Err (DumpStop.Fault f) → dump_of bytes ≡ Err f }
+    ensures enough { (bytes : List ℕ) (f : DumpFault) → S.remaining source.old ≡ Some bytes →
+        result ≡ Err (DumpStop.Fault f) → IsReadWithin bytes f (S.remaining source.new) }
     ensures fits { IfOk result (λ d. Fits d.hw d.frames) }
     ensures no_region { IfOk result (λ d. d.hw.regions ≡ []) }
     ensures memory { (bytes : List ℕ) → S.remaining source.old ≡ Some bytes → result ≡ Err DumpStop.NoMemory →
@@ -48,6 +50,8 @@ pub fn read_dump<S: Source>(alloc: Global, source: &mut S) -> Result<Dump, DumpS
 fn read_header<S: Source>(source: &mut S) -> Result<Header, DumpStop>
     ensures fault { (bytes : List ℕ) (f : DumpFault) → S.remaining source.old ≡ Some bytes →
         result ≡ Err (DumpStop.Fault f) → head_fault bytes ≡ Some f }
+    ensures enough { (bytes : List ℕ) (f : DumpFault) → S.remaining source.old ≡ Some bytes →
+        result ≡ Err (DumpStop.Fault f) → IsReadWithin bytes f (S.remaining source.new) }
     ensures header { IfOk result (λ h. (bytes : List ℕ) → S.remaining source.old ≡ Some bytes →
         IsHeader bytes h.hw h.first h.count) }
     ensures left { IfOk result (λ h. (bytes : List ℕ) → S.remaining source.old ≡ Some bytes →
@@ -81,6 +85,8 @@ fn read_body<S: Source>(
     ensures fault { (bytes : List ℕ) (f : DumpFault) → IsReadTo bytes header.now.first (S.remaining source.old) →
         frames.old ≡ contents bytes header.now.first 0 (top header.now.hw.zones) → result ≡ Err (DumpStop.Fault f) →
         body_fault header.now.hw bytes header.now.first header.now.count ≡ Some f }
+    ensures enough { (bytes : List ℕ) (f : DumpFault) → IsReadTo bytes header.now.first (S.remaining source.old) →
+        result ≡ Err (DumpStop.Fault f) → IsReadWithin bytes f (S.remaining source.new) }
     ensures none { (bytes : List ℕ) → IsReadTo bytes header.now.first (S.remaining source.old) →
         frames.old ≡ contents bytes header.now.first 0 (top header.now.hw.zones) → IsOk result →
         body_fault header.now.hw bytes header.now.first header.now.count ≡ None }
@@ -109,6 +115,8 @@ fn is_over<S: Source>(source: &mut S) -> Result<bool, DumpStop>
     ensures over { IfOk result (λ over. IsTrue over → IsUsedUp (S.remaining source.new)) }
     ensures at { IfOk result (λ over. (bytes : List ℕ) (k : ℕ) → IsReadTo bytes k (S.remaining source.old) →
         over ≡ nat_le (length bytes) k) }
+    ensures left { IfOk result (λ over. (bytes : List ℕ) (k : ℕ) → IsReadTo bytes k (S.remaining source.old) →
+        IsReadTo bytes (if over then k else k + 1) (S.remaining source.new)) }
     ensures no_fault { (f : DumpFault) → result ≢ Err (DumpStop.Fault f) }
     ensures memory { result ≢ Err DumpStop.NoMemory }
     ensures counted { S.faults source.old ≤ S.faults source.new }

@@ -6,7 +6,7 @@ ghost use Rattle.definitions.specs.Disk.{HasRisen};
 ghost use Rattle.definitions.specs.Streams.{HandsOut, IsUsedUp};
 ghost use Rattle.definitions.specs.Tables.{with_frame};
 ghost use Rattle.definitions.specs.Zones.{numbers, top};
-ghost use Rattle.dump_file.specs.Dump.{fault_of_record, is_above, records_fault};
+ghost use Rattle.dump_file.specs.Dump.{IsReadWithin, fault_of_record, is_above, records_fault};
 ghost use Rattle.dump_file.specs.Fields.{contents, number, record_byte};
 ghost use Rattle.dump_file.specs.Reading.{IsReadTo};
 
@@ -31,6 +31,8 @@ pub(crate) fn read_records<S: Source>(
     requires early { first ≤ 2 ^ 32 }
     ensures fault { (bytes : List ℕ) (f : DumpFault) → IsReadTo bytes first (S.remaining source.old) →
         result ≡ Err (DumpStop.Fault f) → records_fault zones.now bytes first count ≡ Some f }
+    ensures enough { (bytes : List ℕ) (f : DumpFault) → IsReadTo bytes first (S.remaining source.old) →
+        result ≡ Err (DumpStop.Fault f) → IsReadWithin bytes f (S.remaining source.new) }
     ensures none { (bytes : List ℕ) → IsReadTo bytes first (S.remaining source.old) → IsOk result →
         records_fault zones.now bytes first count ≡ None }
     ensures left { (bytes : List ℕ) → IsReadTo bytes first (S.remaining source.old) → IsOk result →
@@ -65,11 +67,12 @@ fn read_record<S: Source>(
     requires early { at ≤ 2 ^ 47 }
     ensures fault { (bytes : List ℕ) (f : DumpFault) → IsReadTo bytes at (S.remaining source.old) →
         result ≡ Err (DumpStop.Fault f) → fault_of_record zones.now bytes before at ≡ Some f }
+    ensures enough { (bytes : List ℕ) (f : DumpFault) → IsReadTo bytes at (S.remaining source.old) →
+        result ≡ Err (DumpStop.Fault f) → IsReadWithin bytes f (S.remaining source.new) }
     ensures none { (bytes : List ℕ) → IsReadTo bytes at (S.remaining source.old) → IsOk result →
         fault_of_record zones.now bytes before at ≡ None }
-    ensures frame { IfOk result (λ p. (bytes : List ℕ) → IsReadTo bytes at (S.remaining source.old) →
-        p ≡ number bytes at) }
-    ensures within { IfOk result (λ p. p < length frames.old) }
+    ensures frame { IfOk result (λ p. (p < length frames.old) × ((bytes : List ℕ) →
+        IsReadTo bytes at (S.remaining source.old) → p ≡ number bytes at)) }
     ensures frames { IfOk result (λ p. (bytes : List ℕ) → IsReadTo bytes at (S.remaining source.old) →
         frames.new ≡ with_frame frames.old p (bytes_at 4096 bytes (at + 4))) }
     ensures left { (bytes : List ℕ) → IsReadTo bytes at (S.remaining source.old) → IsOk result →

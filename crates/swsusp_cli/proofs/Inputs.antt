@@ -1,7 +1,7 @@
 -- From why a command has no input to how it ends.
 use Rattle.std.proofs.Common.{◌≡◌, ℕ, List, Option, Some, Err, refl}
 use Rattle.definitions.specs.Disk.{HasRisen}
-use Rattle.dump_file.specs.Dump.{dump_of}
+use Rattle.dump_file.specs.Dump.{IsReadWithin, dump_of}
 use Rattle.dump_file.specs.declared.dump.DumpFault.{DumpFault}
 use Rattle.dump_file.specs.declared.dump.DumpStop.{DumpStop}
 use Rattle.dump_file.specs.declared.dump.DumpStop.TheVariants as of_dump
@@ -22,18 +22,19 @@ pub script_lacking : (left : Option (List ℕ)) (why : ParseStop) → ((bytes : 
 script_lacking left (of_parse.Fault fault) says = λ bytes e. says bytes fault e refl
 script_lacking left of_parse.NoMemory says = tt
 
-pub dump_lacking : (left : Option (List ℕ)) (why : DumpStop) → ((bytes : List ℕ) (fault : DumpFault) → left ≡ Some bytes → why ≡ of_dump.Fault fault → dump_of bytes ≡ Err fault) → LacksDump left (dump_stop why)
-dump_lacking left (of_dump.Fault fault) says = λ bytes e. says bytes fault e refl
-dump_lacking left of_dump.SourceFault says = tt
-dump_lacking left of_dump.NoMemory says = tt
+pub dump_lacking : (left after : Option (List ℕ)) (why : DumpStop) → ((bytes : List ℕ) (fault : DumpFault) → left ≡ Some bytes → why ≡ of_dump.Fault fault → dump_of bytes ≡ Err fault) →
+    ((bytes : List ℕ) (fault : DumpFault) → left ≡ Some bytes → why ≡ of_dump.Fault fault → IsReadWithin bytes fault after) → LacksDump left after (dump_stop why)
+dump_lacking left after (of_dump.Fault fault) says read = λ bytes e. (says bytes fault e refl, read bytes fault e refl)
+dump_lacking left after of_dump.SourceFault says read = tt
+dump_lacking left after of_dump.NoMemory says read = tt
 
 -- a command that wants a dump
-pub without_dump : (P : Type 0) (x x' : View) (status : Status) (stop : Stop) → LacksDump x.left stop → IsStopTold stop status x.out x'.out x.note x'.note → x'.disk ≡ x.disk → (stop ≡ Source → HasRisen x.read_faults x'.read_faults) →
+pub without_dump : (P : Type 0) (x x' : View) (status : Status) (stop : Stop) → LacksDump x.left x'.left stop → IsStopTold stop status x.out x'.out x.note x'.note → x'.disk ≡ x.disk → (stop ≡ Source → HasRisen x.read_faults x'.read_faults) →
     ((fault : DumpFault) → IsNoDump x x' status fault → P) → (IsOutOfMemory x x' status → P) → (FailsAtSource x x' status → P) → P
 without_dump P x x' status Source lacks told untouched cause no_dump out_of_memory unread = unread (record { status_is = told.0; risen = cause refl; out = told.1; note = told.2; untouched = untouched })
 without_dump P x x' status Memory lacks told untouched cause no_dump out_of_memory unread = out_of_memory (record { told = told; untouched = untouched })
 without_dump P x x' status (Script fault) lacks told untouched cause no_dump out_of_memory unread = absurd lacks
-without_dump P x x' status (Dump fault) lacks told untouched cause no_dump out_of_memory unread = no_dump fault (record { says = lacks; told = told; untouched = untouched })
+without_dump P x x' status (Dump fault) lacks told untouched cause no_dump out_of_memory unread = no_dump fault (record { says = λ bytes left. (lacks bytes left).0; read = λ bytes left. (lacks bytes left).1; told = told; untouched = untouched })
 
 -- a command that wants a script
 pub without_script : (P : Type 0) (x x' : View) (status : Status) (stop : Stop) → LacksScript x.left stop → IsStopTold stop status x.out x'.out x.note x'.note → x'.disk ≡ x.disk → (stop ≡ Source → HasRisen x.read_faults x'.read_faults) →

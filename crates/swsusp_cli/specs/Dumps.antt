@@ -3,7 +3,7 @@ use Rattle.std.specs.Prelude.{◌≡◌, ◌≤◌, ◌+◌, ℕ, List, [], ◌+
 use Rattle.std.specs.Prelude.{Option, Some, Ok, Err}
 use Rattle.page_core.specs.declared.format.Format.{Format}
 use Rattle.definitions.specs.Streams.{IsUsedUp}
-use Rattle.dump_file.specs.Dump.{DumpValue, dump_of}
+use Rattle.dump_file.specs.Dump.{IsReadWithin, DumpValue, dump_of}
 use Rattle.dump_file.specs.declared.dump.DumpFault.{DumpFault}
 use Rattle.dump_file.specs.declared.dump.DumpKind.{DumpKind}
 use Rattle.dump_file.specs.declared.dump.DumpKind.TheVariants as kind
@@ -40,9 +40,10 @@ dump_note fault = line (codes "dump " ++ kind_text fault.kind ++ decimal fault.a
 abbrev pub dump_told : DumpFault → RunResult
 dump_told fault = record { status = Input; out = []; note = dump_note fault }
 
--- that is told, and the disk isn't called
+-- that is told, what was left wasn't read much further than to the fault, and the disk isn't called
 pub record IsNoDump (x x' : View) (status : Status) (fault : DumpFault) : Type 0 where
   pub says : (bytes : List ℕ) → x.left ≡ Some bytes → dump_of bytes ≡ Err fault
+  pub read : (bytes : List ℕ) → x.left ≡ Some bytes → IsReadWithin bytes fault x'.left
   pub told : Tells (dump_told fault) status x x'
   pub untouched : x'.disk ≡ x.disk
 

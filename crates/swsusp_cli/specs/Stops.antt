@@ -1,6 +1,6 @@
 -- Why a command has no script or no dump to work on, and what is told of it.
 use Rattle.std.specs.Prelude.{◌≡◌, ℕ, List, Option, Some, Err, ⊤}
-use Rattle.dump_file.specs.Dump.{dump_of}
+use Rattle.dump_file.specs.Dump.{IsReadWithin, dump_of}
 use Rattle.dump_file.specs.declared.dump.DumpStop.{DumpStop}
 use Rattle.dump_file.specs.declared.dump.DumpStop.TheVariants as of_dump
 use Rattle.script.specs.Grammar.{script_of}
@@ -40,12 +40,13 @@ LacksScript left Memory = ⊤
 LacksScript left (Script fault) = (bytes : List ℕ) → left ≡ Some bytes → script_of bytes ≡ Err fault
 LacksScript left (Dump fault) = ⊥
 
--- what was left, where it is told, is no dump: it has this first fault
-abbrev pub LacksDump : Option (List ℕ) → Stop → Type 0
-LacksDump left Source = ⊤
-LacksDump left Memory = ⊤
-LacksDump left (Script fault) = ⊥
-LacksDump left (Dump fault) = (bytes : List ℕ) → left ≡ Some bytes → dump_of bytes ≡ Err fault
+-- what was left, where it is told, is no dump: it has this first fault, and wasn't read much further
+abbrev pub LacksDump : Option (List ℕ) → Option (List ℕ) → Stop → Type 0
+LacksDump left after Source = ⊤
+LacksDump left after Memory = ⊤
+LacksDump left after (Script fault) = ⊥
+LacksDump left after (Dump fault) =
+    (bytes : List ℕ) → left ≡ Some bytes → (dump_of bytes ≡ Err fault) × IsReadWithin bytes fault after
 
 -- of a source that failed a note is tried, once, and out isn't called; every other cause is told as an answer
 abbrev pub IsStopTold : Stop → Status → SinkView → SinkView → SinkView → SinkView → Type 0

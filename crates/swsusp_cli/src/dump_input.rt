@@ -25,7 +25,7 @@ pub fn dump_of_input<I: Source>(alloc: Global, input: &mut I) -> Result<Dump, St
         dump_of bytes ≡ Ok (record { hw = d.hw; memory = d.frames })) }
     ensures end { IsOk result → IsUsedUp (I.remaining input.new) }
     ensures fits { IfOk result (λ d. Fits d.hw d.frames) }
-    ensures lacks { IfErr result (LacksDump (I.remaining input.old)) }
+    ensures lacks { IfErr result (LacksDump (I.remaining input.old) (I.remaining input.new)) }
     ensures cause { result ≡ Err Stop.Source → HasRisen (I.faults input.old) (I.faults input.new) }
     ensures counted { I.faults input.old ≤ I.faults input.new }
 {

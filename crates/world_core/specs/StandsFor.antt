@@ -43,26 +43,14 @@ blocks_of w = w.machine.blocks
 -- whether a world is off, and whether memory is still a dump's then
 abbrev pub is_off : Core → Bool
 is_off (Off keeps) = true
-is_off Running = false
-is_off (BootBegun from) = false
-is_off (BootSynced from) = false
-is_off Hibernating = false
-is_off Asleep = false
-is_off Waking = false
-is_off Loading = false
+is_off _ = false
 
 abbrev pub IsOff : World → Type 0
 IsOff w = is_off w.core ≡ true
 
 abbrev pub keeps_dump : Core → Bool
 keeps_dump (Off keeps) = keeps
-keeps_dump Running = false
-keeps_dump (BootBegun from) = false
-keeps_dump (BootSynced from) = false
-keeps_dump Hibernating = false
-keeps_dump Asleep = false
-keeps_dump Waking = false
-keeps_dump Loading = false
+keeps_dump _ = false
 
 -- one that hibernates, settles, wakes or resumes has a step to make
 pub record IsBusyIn (w : World) : Type 0 where
@@ -81,45 +69,23 @@ activity_of Loading hib load waker = resumption.activity_of load
 
 -- the block that is kept, the page frames of the copies, and the pages that wait, by page frame
 abbrev pub header_of : Core → Hib → Load → Waker → List ℕ
-header_of (Off keeps) hib load waker = []
-header_of Running hib load waker = []
-header_of (BootBegun from) hib load waker = []
-header_of (BootSynced from) hib load waker = []
 header_of Hibernating hib load waker = hibernation.header_at hib.stage
-header_of Asleep hib load waker = []
 header_of Waking hib load waker = waking.header_at waker.stage
 header_of Loading hib load waker = resumption.header_at load.stage
+header_of _ hib load waker = []
 
 abbrev pub copies_of : Core → Hib → List ℕ
-copies_of (Off keeps) hib = []
-copies_of Running hib = []
-copies_of (BootBegun from) hib = []
-copies_of (BootSynced from) hib = []
 copies_of Hibernating hib = hib.snapshot.copies
-copies_of Asleep hib = []
-copies_of Waking hib = []
-copies_of Loading hib = []
+copies_of _ hib = []
 
 -- loader and check of a resume
 abbrev pub resume_of : Core → Load → Option (Loader × IdentCheck)
-resume_of (Off keeps) load = None
-resume_of Running load = None
-resume_of (BootBegun from) load = None
-resume_of (BootSynced from) load = None
-resume_of Hibernating load = None
-resume_of Asleep load = None
-resume_of Waking load = None
 resume_of Loading load = Some (load.loader, load.check)
+resume_of _ load = None
 
 abbrev pub loaded_of : Core → Memory → Load → List (ℕ × List ℕ)
-loaded_of (Off keeps) frames load = []
-loaded_of Running frames load = []
-loaded_of (BootBegun from) frames load = []
-loaded_of (BootSynced from) frames load = []
-loaded_of Hibernating frames load = []
-loaded_of Asleep frames load = []
-loaded_of Waking frames load = []
 loaded_of Loading frames load = zip load.waiting.originals (waiting_pages frames load.waiting)
+loaded_of _ frames load = []
 
 -- What is shown between two calls of the disk: a hibernation keeps a block and has copies, a settling or a waking keeps
 -- one, a resume keeps one and has a loader, a check and loaded pages.

@@ -13,20 +13,18 @@ use Rattle.resume_core.specs.declared.load.Load.{Load}
 use Rattle.sleep_core.specs.Waking.{waking_steps_left}
 use Rattle.sleep_core.specs.declared.waker.Waker.{Waker}
 use Rattle.world_core.specs.declared.world.Core.{Core}
-use Rattle.world_core.specs.declared.world.Core.TheVariants.{Off, Running, BootBegun, BootSynced, Hibernating, Asleep}
+use Rattle.world_core.specs.declared.world.Core.TheVariants.{BootBegun, BootSynced, Hibernating}
 use Rattle.world_core.specs.declared.world.Core.TheVariants.{Waking, Loading}
 use Rattle.world_core.specs.StandsFor.{IsOff}
 use Rattle.world_core.specs.World.{World}
 
 abbrev pub steps_left_in : Core → Hib → Load → Waker → ℕ
-steps_left_in (Off keeps) hib load waker = 0
-steps_left_in Running hib load waker = 0
 steps_left_in (BootBegun from) hib load waker = 2
 steps_left_in (BootSynced from) hib load waker = 1
 steps_left_in Hibernating hib load waker = saving_steps_left hib
-steps_left_in Asleep hib load waker = 0
 steps_left_in Waking hib load waker = waking_steps_left waker
 steps_left_in Loading hib load waker = loading_steps_left load
+steps_left_in _ hib load waker = 0
 
 abbrev pub steps_left : World → ℕ
 steps_left w = steps_left_in w.core w.hib w.load w.waker

@@ -1,7 +1,8 @@
-use Rattle.std.proofs.Common.{refl, ap, ◌∙◌}
+use Rattle.std.proofs.Common.{◌≡◌, length, refl, arith, ap, ◌∙◌}
 use Rattle.plain_machine.specs.Machine.{Hardware}
 use Rattle.dump_file.specs.declared.dump.DumpStop.TheVariants.{Fault}
 use Rattle.dump_file.proofs.Chains.{named}
+use Rattle.dump_file.proofs.Enough.{enough_front}
 use Rattle.dump_file.proofs.HeadParts.{no_region}
 use Rattle.dump_file.proofs.Headers.{header_fault, header_is, header_read}
 use Rattle.dump_file.proofs.read.read_header.Goals as goal
@@ -31,3 +32,10 @@ returns-in-Err-header_of-clause-fault g c bytes f e same =
     header_fault bytes c.read_front.new.bytes c.in-Ok.len (remaining c.args.source.now) (remaining c.read_front.new.source) wrong e
     c.in-Ok.ensures.within c.in-Ok.ensures.bytes c.in-Ok.ensures.whole c.in-Err-header_of.ensures.fault
     ∙ named (Fault wrong) wrong f refl same
+
+pub returns-in-Err-header_of-clause-enough : goal.returns-in-Err-header_of-clause-enough
+returns-in-Err-header_of-clause-enough g c bytes f e same =
+    let remaining = g.S.Source.remaining in
+    let size : length c.read_front.new.bytes ≡ 1332 = c.read_front.array_long in
+    enough_front bytes c.read_front.new.bytes c.in-Ok.len (remaining c.args.source.now) (remaining c.read_front.new.source) f e
+    c.in-Ok.ensures.within (omega (arith, size, c.in-Ok.ensures.within)) c.in-Ok.ensures.bytes

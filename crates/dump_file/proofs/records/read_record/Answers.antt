@@ -7,8 +7,10 @@ use Rattle.definitions.proofs.ZoneNumbers.{below_top}
 use Rattle.plain_machine.specs.Loader.{has}
 use Rattle.dump_file.specs.Dump.{is_above, wanted}
 use Rattle.dump_file.specs.Fields.{number}
+use Rattle.dump_file.specs.declared.dump.DumpFault.{DumpFault}
 use Rattle.dump_file.specs.declared.dump.DumpKind.TheVariants.{Frame, Order}
 use Rattle.dump_file.proofs.Chains.{named, passed}
+use Rattle.dump_file.proofs.Enough.{enough_at}
 use Rattle.dump_file.proofs.RecordFaults.{no_number, no_frame, no_order, no_page, no_fault, valid-false, valid-true}
 use Rattle.dump_file.proofs.records.read_record.Goals as goal
 
@@ -16,6 +18,11 @@ pub returns-in_err-p-clause-fault : goal.returns-in_err-p-clause-fault
 returns-in_err-p-clause-fault g c bytes f h e =
     let p = err_from_is_err_and c.from_residual.result c.from_residual.ensures.1 in
     no_number c.args.zones.now bytes c.args.before c.args.at f (c.in_err-p.ensures.short bytes f h (sym (p.1 ∙ ap Err p.2) ∙ e))
+
+pub returns-in_err-p-clause-enough : goal.returns-in_err-p-clause-enough
+returns-in_err-p-clause-enough g c bytes f h e =
+    let p = err_from_is_err_and c.from_residual.result c.from_residual.ensures.1 in
+    c.in_err-p.ensures.enough bytes f h (passed c.in_err-p.field-0.0 f (sym (p.1 ∙ ap Err p.2) ∙ e))
 
 pub returns-then-not-valid-clause-fault : goal.returns-then-not-valid-clause-fault
 returns-then-not-valid-clause-fault g c bytes f h e =
@@ -25,6 +32,11 @@ returns-then-not-valid-clause-fault g c bytes f h e =
     (ap (has (numbers c.args.zones.now)) (sym is) ∙ valid-false c.args.zones.now p c.valid.result c.valid.ensures.valid c.if-not-valid.true)
     ∙ named c.fault.result (record { kind = Frame; at = c.args.at }) f c.fault.ensures e
 
+pub returns-then-not-valid-clause-enough : goal.returns-then-not-valid-clause-enough
+returns-then-not-valid-clause-enough g c bytes f h e =
+    let wrong : DumpFault = record { kind = Frame; at = c.args.at } in
+    enough_at bytes (c.args.at + 4) wrong f (g.S.Source.remaining c.read_number.new.source) (c.in_ok-p.ensures.left bytes h refl) (omega arith) (named c.fault.result wrong f c.fault.ensures e)
+
 pub returns-then-not-is_above-clause-fault : goal.returns-then-not-is_above-clause-fault
 returns-then-not-is_above-clause-fault g c bytes f h e =
     let p = c.in_ok-p.p in
@@ -33,6 +45,11 @@ returns-then-not-is_above-clause-fault g c bytes f h e =
     (ap (has (numbers c.args.zones.now)) (sym is) ∙ valid-true c.args.zones.now p c.valid.result c.valid.ensures.valid c.if-not-valid.false)
     (ap (is_above c.args.before) (sym is) ∙ sym c.is_above.ensures ∙ c.if-not-is_above.true)
     ∙ named c.fault-then-not-is_above.result (record { kind = Order; at = c.args.at }) f c.fault-then-not-is_above.ensures e
+
+pub returns-then-not-is_above-clause-enough : goal.returns-then-not-is_above-clause-enough
+returns-then-not-is_above-clause-enough g c bytes f h e =
+    let wrong : DumpFault = record { kind = Order; at = c.args.at } in
+    enough_at bytes (c.args.at + 4) wrong f (g.S.Source.remaining c.read_number.new.source) (c.in_ok-p.ensures.left bytes h refl) (omega arith) (named c.fault-then-not-is_above.result wrong f c.fault-then-not-is_above.ensures e)
 
 pub take_exact-requires-clause-early : goal.take_exact-requires-clause-early
 take_exact-requires-clause-early g c = omega (arith, c.requires.early)
@@ -47,6 +64,11 @@ returns-in_err-take_exact-clause-fault g c bytes f h e =
     (ap (has (numbers c.args.zones.now)) (sym is) ∙ valid-true c.args.zones.now frame c.valid.result c.valid.ensures.valid c.if-not-valid.false)
     (ap (is_above c.args.before) (sym is) ∙ sym c.is_above.ensures ∙ c.if-not-is_above.false)
     (subst (λ (n : ℕ). wanted bytes (c.args.at + 4 + n) ≡ Some f) c.told-page short)
+
+pub returns-in_err-take_exact-clause-enough : goal.returns-in_err-take_exact-clause-enough
+returns-in_err-take_exact-clause-enough g c bytes f h e =
+    let p = err_from_is_err_and c.from_residual-in_err-take_exact.result c.from_residual-in_err-take_exact.ensures.1 in
+    c.in_err-take_exact.ensures.enough bytes f (c.in_ok-p.ensures.left bytes h refl) (passed c.in_err-take_exact.field-0.0 f (sym (p.1 ∙ ap Err p.2) ∙ e))
 
 pub write_bytes-requires : goal.write_bytes-requires
 write_bytes-requires g c =
@@ -69,7 +91,7 @@ returns-clause-frames g c bytes h =
     c.write_bytes.ensures
     ∙ ap (with_frame c.args.frames.now c.in_ok-p.p) (piece ∙ ap (λ (n : ℕ). bytes_at n bytes (c.args.at + 4)) c.told-page)
 
-pub returns-clause-within : goal.returns-clause-within
-returns-clause-within g c =
+pub returns-clause-frame : goal.returns-clause-frame
+returns-clause-frame g c =
     let below = below_top c.args.zones.now c.in_ok-p.p c.valid.ensures.zones.apart (c.valid.ensures.valid.0 c.if-not-valid.false) in
-    omega (arith, below, c.requires.size)
+    (omega (arith, below, c.requires.size), λ bytes h. c.in_ok-p.ensures.number bytes h)

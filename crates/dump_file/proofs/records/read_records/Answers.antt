@@ -33,6 +33,12 @@ returns-in_err-read_record-clause-fault g c bytes f h e =
     (λ i from below. c.loop-j.invariant.none bytes h i below)
     (fault_here c.args.zones.now bytes c.args.first j c.from.result c.loop-j.before (Some f) c.from.ensures (c.loop-j.invariant.before bytes h) wrong)
 
+pub returns-in_err-read_record-clause-enough : goal.returns-in_err-read_record-clause-enough
+returns-in_err-read_record-clause-enough g c bytes f h e =
+    let p = err_from_is_err_and c.from_residual.result c.from_residual.ensures.1 in
+    let here = at_record bytes c.args.first c.loop-j.j c.from.result (g.S.Source.remaining c.loop-j.source) c.from.ensures (c.loop-j.invariant.left bytes h) in
+    c.in_err-read_record.ensures.enough bytes f here (passed c.in_err-read_record.field-0.0 f (sym (p.1 ∙ ap Err p.2) ∙ e))
+
 pub loop-j-preserved : goal.loop-j-preserved
 loop-j-preserved g c =
     let zones = c.args.zones.now in
@@ -42,7 +48,7 @@ loop-j-preserved g c =
     let here : (bytes : List ℕ) → IsReadTo bytes first (remaining c.args.source.now) → IsReadTo bytes (first + 4100 * c.from.result) (remaining c.loop-j.source) =
     λ bytes h. at_record bytes first j c.from.result (remaining c.loop-j.source) c.from.ensures (c.loop-j.invariant.left bytes h) in
     let frame_is : (bytes : List ℕ) → IsReadTo bytes first (remaining c.args.source.now) → c.in_ok-read_record.field-0 ≡ record_frame bytes first j =
-    λ bytes h. c.in_ok-read_record.ensures.frame bytes (here bytes h) ∙ ap (λ (k : ℕ). number bytes (first + 4100 * k)) c.from.ensures in
+    λ bytes h. c.in_ok-read_record.ensures.frame.1 bytes (here bytes h) ∙ ap (λ (k : ℕ). number bytes (first + 4100 * k)) c.from.ensures in
     let none_here : (bytes : List ℕ) → IsReadTo bytes first (remaining c.args.source.now) → record_fault zones bytes first j ≡ None =
     λ bytes h. fault_here zones bytes first j c.from.result c.loop-j.before None c.from.ensures (c.loop-j.invariant.before bytes h) (c.in_ok-read_record.ensures.none bytes (here bytes h) refl) in
     let more : j + 1 ≡ suc j = omega arith in
@@ -62,7 +68,7 @@ loop-j-preserved g c =
       frames =
           λ bytes h e.
           let p = c.in_ok-read_record.field-0 in
-          let within : p < top zones = omega (arith, c.in_ok-read_record.ensures.within, c.loop-j.invariant.size) in
+          let within : p < top zones = omega (arith, c.in_ok-read_record.ensures.frame.0, c.loop-j.invariant.size) in
           c.in_ok-read_record.ensures.frames bytes (here bytes h)
           ∙ ap (λ (m : List (List ℕ)). with_frame m p (bytes_at 4096 bytes (first + 4100 * c.from.result + 4))) (c.loop-j.invariant.frames bytes h e)
           ∙ ap (λ (k : ℕ). with_frame (contents bytes first j (top zones)) p (bytes_at 4096 bytes (first + 4100 * k + 4))) c.from.ensures

@@ -8,13 +8,13 @@ use Rattle.machine_cli.proofs.Unread.{lacks_first, lacks_second}
 use Rattle.machine_cli.proofs.differing.differ.Goals as goal
 
 pub returns-in-Err-clause-outcome : goal.returns-in-Err-clause-outcome
-returns-in-Err-clause-outcome g c = lacks_first _ _ c.tell.result _ _ _ _ c.in-Err.stop c.in-Err.ensures.lacks c.tell.ensures.told
+returns-in-Err-clause-outcome g c = lacks_first _ _ _ c.tell.result _ _ _ _ c.in-Err.stop c.in-Err.ensures.lacks c.tell.ensures.told
 
 pub returns-in-Err-dump_of_input-clause-outcome : goal.returns-in-Err-dump_of_input-clause-outcome
 returns-in-Err-dump_of_input-clause-outcome g c =
     let a : DumpValue = record { hw = c.in-Ok.dump.hw; memory = c.in-Ok.dump.frames } in
     let tell = c.tell-in-Err-dump_of_input in
-    lacks_second _ _ a tell.result _ _ _ _ c.in-Err-dump_of_input.stop (λ bytes left. c.in-Ok.ensures.dump bytes left) c.in-Err-dump_of_input.ensures.lacks tell.ensures.told
+    lacks_second _ _ _ a tell.result _ _ _ _ c.in-Err-dump_of_input.stop (λ bytes left. c.in-Ok.ensures.dump bytes left) c.in-Err-dump_of_input.ensures.lacks tell.ensures.told
 
 pub returns-clause-outcome : goal.returns-clause-outcome
 returns-clause-outcome g c =
