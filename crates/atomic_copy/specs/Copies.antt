@@ -1,5 +1,5 @@
--- The atomic copy (copy_data_pages, kernel/power/snapshot.c): each original goes into the copy frame with the same
--- place.
+-- The atomic copy (copy_data_pages, kernel/power/snapshot.c): each original is copied into the copy frame at the same
+-- index.
 use Rattle.std.specs.Prelude.{◌≡◌, ℕ, ◌<◌, List, length, slice_index, Contains}
 use Rattle.definitions.specs.Tables.{frame}
 

@@ -1,4 +1,4 @@
--- What a check has asked for and found. Each is said over a disk with this content, of whose reads so many failed.
+-- What a check has asked for and found, each over a disk with this content, on which `faults` reads have failed.
 use Rattle.std.specs.Prelude.{◌≡◌, ℕ, ◌<◌, ◌≤◌, ◌⊎◌, ◌==◌, true, false, List, [], ◌∷◌, ◌++◌, Option, Some, None}
 use Rattle.std.specs.Prelude.{Result, Ok}
 use Rattle.std.specs.List.{list_any}
@@ -23,7 +23,7 @@ use Rattle.boot_check.specs.declared.stage.Stage.TheVariants as stage
 use Rattle.boot_check.specs.declared.stage.Step.{Step}
 use Rattle.boot_check.specs.declared.stage.Step.TheVariants as step
 
--- what is asked of the caller
+-- what the caller is asked for
 abbrev pub pending_at : Stage → ℕ → Step
 pending_at stage.Header header = step.Read header
 pending_at (stage.Name b) header = step.Read b
@@ -32,12 +32,12 @@ pending_at (stage.Over outcome) header = step.Over outcome
 abbrev pub pending : Check → Step
 pending c = pending_at c.stage c.names.limits.header
 
--- a block that is named next is asked for; at the end of the chain all is checked
+-- a block that is named next is asked for; at the end of the chain everything was checked
 abbrev pub stage_after : Option ℕ → Stage
 stage_after (Some b) = stage.Name b
 stage_after None = stage.Over Checked
 
--- the header block has the mark of an image that isn't compressed, and its names are checked by what it says
+-- the header block has the mark of an image that isn't compressed, and its names are checked by what the block says
 pub record IsImageOf (content : Option Content) (blocks header : ℕ) (n : Names) (page : List ℕ) (mark : Mark) : Type 0
   where
     pub read : IsReadFrom content header (Ok page)
@@ -46,8 +46,8 @@ pub record IsImageOf (content : Option Content) (blocks header : ℕ) (n : Names
     pub limits : n.limits ≡ limits_of blocks header (area_kind (taken_back page))
     pub format : n.format ≡ format_of mark.flags
 
--- the header block was asked for, and then the blocks of a history; what is wrong with it was found, and then what is
--- wrong with the names
+-- the header block was asked for, and then the blocks of a history; what is wrong with the header block was found, and
+-- then what is wrong with the names
 pub record IsBetween (content : Option Content) (faults blocks header : ℕ) (n : Names) (words asked : List ℕ)
     (found : List Finding) : Type 0 where
   pub page : List ℕ
@@ -66,7 +66,7 @@ pub record IsAtName (content : Option Content) (faults blocks header : ℕ) (n :
   pub block : block_asked n.walk ≡ Some b
   pub free : fault_of n.limits between.named.history b ≡ None
 
--- what came of the read of a block: the page that the disk holds, or one more failure
+-- the outcome of the read of a block: the page that the disk holds, or one more failure
 pub record IsOutcome (content : Option Content) (before now : ℕ) (b : ℕ) (answer : Result (List ℕ) BlockFault) : Type 0
   where
     pub read : IsReadFrom content b answer
@@ -74,7 +74,7 @@ pub record IsOutcome (content : Option Content) (before now : ℕ) (b : ℕ) (an
     pub rises : before ≤ now
     pub unread : is_unread answer ≡ true → 0 < now
 
--- the blocks that were asked for are the header's, and those of a whole reading, in whose names this was found
+-- the blocks that were asked for are the header's and those of a whole reading, and this was found in their names
 abbrev pub AsksNames : Option Content → (faults blocks header : ℕ) → List ℕ → List Finding → Type 0
 AsksNames content faults blocks header asked found =
     (page : List ℕ) × (mark : Mark) × (h : List Name)
@@ -83,7 +83,7 @@ AsksNames content faults blocks header asked found =
     × ((found ≡ header_findings blocks header mark.flags page ++ history_findings (format_of mark.flags) h)
     × (asked ≡ asked_in h ++ header ∷ []))))
 
--- what was found is all that `check` finds; of an image whose names aren't read the header block alone was asked for
+-- everything that `check` finds was found; if the names of the image aren't read, only the header block was asked for
 abbrev pub IsAll : Option Content → (faults blocks header : ℕ) → List ℕ → List Finding → Outcome → Type 0
 IsAll content faults blocks header asked found NoImage =
     (found ≡ []) × Finds content blocks header 0 faults None
@@ -101,14 +101,14 @@ FoundAt (stage.Name b) content faults blocks header n words asked found =
 FoundAt (stage.Over outcome) content faults blocks header n words asked found =
     IsAll content faults blocks header asked found outcome
 
--- A check of the area whose header is in a block has asked for these blocks, the newest first, and found this. The
--- words are as it left them.
+-- A check of the area with this header block has asked for these blocks, the newest first, and found this. The words
+-- are as the check left them.
 abbrev pub HasFound : Option Content → (faults blocks header : ℕ) → Check → (words asked : List ℕ) → List Finding →
     Type 0
 HasFound content faults blocks header c words asked found =
     FoundAt c.stage content faults blocks header c.names words asked found
 
--- a block of the disk is asked for that wasn't before, or all is found
+-- a block of the disk that wasn't asked for before is asked for, or everything was found
 abbrev pub IsTurn : Option Content → (faults blocks header : ℕ) → List ℕ → List Finding → Step → Type 0
 IsTurn content faults blocks header asked found (step.Read b) =
     (b < blocks) × (list_any (λ x. b == x) asked ≡ false)

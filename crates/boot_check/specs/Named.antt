@@ -1,4 +1,4 @@
--- What a check keeps of the names of an image.
+-- What a check keeps about the names of an image.
 use Rattle.std.specs.Prelude.{◌≡◌, ℕ, ◌<◌, Bool, true, if◌then◌else◌, List, [], ◌∷◌, Option, Some, None, Result, Ok}
 use Rattle.std.specs.Prelude.{Err}
 use Rattle.definitions.specs.Disk.{Content}
@@ -12,7 +12,7 @@ use Rattle.image_check.specs.Told.{Told, Tells}
 use Rattle.image_check.specs.declared.finding.Finding.{Finding}
 use Rattle.boot_check.specs.declared.names.Names.{Names}
 
--- a block was asked for where it has a page, or the read of it failed
+-- a block was asked for if it has a page, or if its read failed
 abbrev pub was_asked : Result (List ℕ) BlockFault → Bool
 was_asked (Ok page) = true
 was_asked (Err why) = is_unread (Err why)
@@ -25,8 +25,8 @@ abbrev pub asked_in : List Name → List ℕ
 asked_in [] = []
 asked_in (x ∷ h) = asked_with (answer_of x) (block_of x) (asked_in h)
 
--- The names up to the end of a history were checked, over a disk with this content of whose reads so many failed: these
--- blocks were asked for, and this was found.
+-- The names up to the end of a history were checked, over a disk with this content on which `faults` reads have failed:
+-- these blocks were asked for, and this was found.
 pub record HasNamed (content : Option Content) (faults first : ℕ) (n : Names) (words asked : List ℕ)
     (found : List Finding) : Type 0 where
   pub history : List Name
@@ -37,7 +37,7 @@ pub record HasNamed (content : Option Content) (faults first : ℕ) (n : Names) 
   pub asked_is : asked ≡ asked_in history
   pub found_is : found ≡ history_findings n.format history
 
--- the name after a history is that of a block, with what came of it, and what is wrong with it is told
+-- the name after a history is that of a block, with the outcome of its read, and what is wrong with it was reported
 pub record TellsName (first b : ℕ) (h : List Name) (told : Result (Unit {0}) BlockFault) (page : List ℕ)
     (old new : Names) (words : List ℕ) (before after : Told) : Type 0 where
   pub name : Name

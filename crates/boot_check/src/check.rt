@@ -11,11 +11,12 @@ use page_core::Page;
 use sig_header::AreaKind;
 
 /// A check of the image of an area: a value of fixed size, which its caller asks for the next block and tells how the
-/// read of it went. Its fields are public so that a caller can keep it in a form of his own; what the clauses promise
-/// holds of what began with `begin`, where the same words are lent to each call, and nobody else writes them.
+/// read of it went. Its fields are public so that a caller can keep it in a form of its own; the promises of the
+/// clauses hold for a value that began with `begin`, if the same words are lent to each call and nobody else writes
+/// them.
 #[derive(Drop)]
 pub struct Check {
-    /// What the pending read is of.
+    /// The purpose of the pending read, or how the check ended.
     pub stage: Stage,
     /// What was checked so far.
     pub names: Names,
@@ -33,8 +34,8 @@ impl Check {
     ghost use Rattle.boot_check.specs.declared.stage.Stage.TheVariants.{Header, Over};
     ghost use Rattle.boot_check.specs.declared.stage.Step.TheVariants.{Read};
 
-    /// A check before its first read, of the image of the area whose header lies in a block of a disk. The words are a
-    /// bit for each block, whatever they hold.
+    /// Returns a check before its first read, of the image of the area whose header lies in block `header` of a disk.
+    /// `words` holds a bit for each block, with any contents.
     pub fn begin(blocks: u32, header: u32, words: &[u64]) -> Result<Check, FewWords>
         ensures found { IfOk result (λ c. (content : Option Content) (lent : List ℕ) →
             HasFound content 0 blocks header c lent [] []) }
@@ -56,11 +57,11 @@ impl Check {
         })
     }
 
-    /// The block that is to be read, or how the check ended.
+    /// Returns the block that is to be read, or how the check ended.
     pub fn next(&self) -> Step
         ensures step { result ≡ pending self.now }
-        // Over a disk with this content of whose reads so many failed: a block that wasn't asked for yet; or what
-        // `check` finds is found.
+        // Over a disk with this content, on which `faults` reads have failed: a block that wasn't asked for yet; or all
+        // that `check` finds was found.
         ensures turn { (content : Option Content) (faults blocks header : ℕ) (words asked : List ℕ)
             (found : List Finding) → HasFound content faults blocks header self.now words asked found →
             IsTurn content faults blocks header asked found result }
@@ -68,7 +69,7 @@ impl Check {
         pending_at(self.stage, self.names.limits.header)
     }
 
-    /// Tells that the pending read was made, and gave this page. After the end nothing changes.
+    /// Records that the pending read was made and gave this page. After the end nothing changes.
     pub fn answer<R: Report>(&mut self, words: &mut [u64], page: &Page, report: &mut R)
         requires { self.old.names.limits.blocks ≤ 64 * length words.old }
         ensures found { (content : Option Content) (faults blocks header b : ℕ) (asked : List ℕ)
@@ -89,7 +90,7 @@ impl Check {
         }
     }
 
-    /// Tells that the pending read failed, which is a finding. After the end nothing changes.
+    /// Records that the pending read failed, which is a finding. After the end nothing changes.
     pub fn fail<R: Report>(&mut self, words: &mut [u64], report: &mut R)
         requires { self.old.names.limits.blocks ≤ 64 * length words.old }
         ensures found { (content : Option Content) (faults blocks header b : ℕ) (asked : List ℕ)
@@ -115,7 +116,7 @@ impl Check {
         }
     }
 
-    /// Goes on with the header block's page.
+    /// Continues with the header block's page.
     fn take_header<R: Report>(&mut self, words: &mut [u64], page: &Page, report: &mut R)
         requires { self.old.names.limits.blocks ≤ 64 * length words.old }
         ensures found { (content : Option Content) (faults blocks header : ℕ) →
@@ -142,7 +143,7 @@ impl Check {
         self.go_on(words, report);
     }
 
-    /// Goes on with what came of the block that is named next.
+    /// Continues with the outcome of the block that is named next.
     fn take_name<R: Report>(
         &mut self,
         words: &mut [u64],
@@ -163,7 +164,7 @@ impl Check {
         self.go_on(words, report);
     }
 
-    /// Goes on up to the next block that is read.
+    /// Continues up to the next block that is read.
     fn go_on<R: Report>(&mut self, words: &mut [u64], report: &mut R)
         requires { self.old.names.limits.blocks ≤ 64 * length words.old }
         ensures found { (content : Option Content) (faults blocks header : ℕ) (asked : List ℕ) (found : List Finding) →

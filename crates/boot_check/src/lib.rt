@@ -1,5 +1,5 @@
-//! A check of an image, as a value that asks: it names the block to be read next and is told how that went, so a boot
-//! loader can embed it. What it finds is what `check` of `image_check` finds over a disk.
+//! A check of an image as a value that asks: it names the block to be read next and is told how that went, so a boot
+//! loader can embed it. It finds what `check` of `image_check` finds over a disk.
 #![tactic(auto)]
 
 mod check;

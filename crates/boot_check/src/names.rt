@@ -8,7 +8,7 @@ use page_core::{Format, Page};
 /// How many entries a map page has (MAP_PAGE_ENTRIES).
 const ENTRIES: usize = 511;
 
-/// What is kept of the names of an image, as far as they were checked.
+/// What is kept of the names of an image that were checked so far.
 #[derive(Drop)]
 pub struct Names {
     pub limits: Limits,
@@ -28,7 +28,7 @@ impl Names {
     ghost use Rattle.image_walk.specs.Walking.{Stands, block_asked, unread_left};
     ghost use Rattle.boot_check.specs.Named.{HasNamed, TellsName, Waits};
 
-    /// Before an image is known.
+    /// Returns the names before an image is known.
     pub(crate) fn unknown(blocks: u32, header: u32) -> Names
         ensures { result.limits ≡ any_block blocks header }
     {
@@ -47,7 +47,7 @@ impl Names {
         }
     }
 
-    /// Before the first name of an image.
+    /// Returns the names before the first name of an image.
     pub(crate) fn begin(limits: Limits, format: Format, words: &mut [u64], first: u64) -> Names
         requires { limits.blocks ≤ 64 * length words.old }
         ensures limits { result.limits ≡ limits }
@@ -65,7 +65,7 @@ impl Names {
         }
     }
 
-    /// Tells what is wrong with the name that comes next, by what came of its block.
+    /// Reports what is wrong with the next name, given the outcome of its block.
     pub(crate) fn tell<R: Report>(
         &mut self,
         words: &mut [u64],
@@ -90,7 +90,7 @@ impl Names {
         }
     }
 
-    /// Tells what is wrong with the names that aren't read, up to the next one that is, and returns its block.
+    /// Reports what is wrong with the names that aren't read, up to the next one that is, and returns its block.
     pub(crate) fn go_on<R: Report>(&mut self, words: &mut [u64], report: &mut R) -> Option<u32>
         requires { self.old.limits.blocks ≤ 64 * length words.old }
         ensures went { (content : Option Content) (faults first : ℕ) (asked : List ℕ) (found : List Finding) →

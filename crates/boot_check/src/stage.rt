@@ -3,16 +3,16 @@ ghost use Rattle.boot_check.specs.Found.{pending_at, stage_after};
 
 use image_check::Outcome;
 
-/// What a check asks of its caller, or how it ended.
+/// What a check asks its caller for, or how it ended.
 #[derive(Clone, Copy, Debug, PartialEq, Eq)]
 pub enum Step {
-    /// The block is to be read into the buffer.
+    /// The block must be read into the buffer.
     Read { block: u32 },
-    /// Nothing is asked any more.
+    /// Nothing more is asked for.
     Over(Outcome),
 }
 
-/// What the pending read is of, or how the check ended.
+/// The purpose of the pending read, or how the check ended.
 #[derive(Clone, Copy, Debug, PartialEq, Eq)]
 pub enum Stage {
     /// The header block.
@@ -22,11 +22,11 @@ pub enum Stage {
     Over(Outcome),
 }
 
-/// The memory that is lent has not a bit for each block.
+/// The memory that was lent doesn't have a bit for each block.
 #[derive(Clone, Copy, Debug, PartialEq, Eq)]
 pub struct FewWords;
 
-/// What is asked of the caller at a stage, of an area whose header is in a block.
+/// Returns what the caller is asked for at a stage of the check of an area whose header is in block `header`.
 pub(crate) fn pending_at(stage: Stage, header: u32) -> Step
     ensures { result ≡ pending_at stage header }
 {
@@ -37,7 +37,7 @@ pub(crate) fn pending_at(stage: Stage, header: u32) -> Step
     }
 }
 
-/// The stage in which this block is named next, or the chain has ended.
+/// Returns the stage in which this block is named next, or in which the chain has ended.
 pub(crate) fn stage_after(next: Option<u32>) -> Stage
     ensures { result ≡ stage_after next }
 {

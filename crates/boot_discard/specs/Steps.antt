@@ -6,8 +6,8 @@ use Rattle.boot_discard.specs.declared.step.Left.TheVariants.{Same, Unsure}
 use Rattle.boot_discard.specs.declared.step.Step.{Step}
 use Rattle.boot_discard.specs.declared.step.Step.TheVariants.{Read, Write, Sync, Discarded, NoImage, NoOriginal, Failed}
 
--- Behind the read of the header block, which gave the page `old`: it is written taken back just where it is marked, and
--- isn't any more then.
+-- After the read of the header block, which gave the page `old`: the block is written with its mark taken back if and
+-- only if it is marked and no longer is once taken back.
 abbrev pub IsBehindRead : ℕ → (old new : List ℕ) → Step → Type 0
 IsBehindRead block old new NoImage = (IsMarked old → ⊥) × (new ≡ old)
 IsBehindRead block old new NoOriginal = IsMarked old × (IsMarked (taken_back old) × (new ≡ old))
@@ -18,7 +18,7 @@ IsBehindRead block old new Sync = ⊥
 IsBehindRead block old new Discarded = ⊥
 IsBehindRead block old new (Failed left) = ⊥
 
--- the step behind one that was made, and the buffer
+-- the step after one that was made, and the buffer
 abbrev pub Answered : Step → List ℕ → Step → List ℕ → Type 0
 Answered (Read block) old step new = IsBehindRead block old new step
 Answered (Write block) old step new = (step ≡ Sync) × (new ≡ old)
@@ -28,7 +28,7 @@ Answered NoImage old step new = (step ≡ NoImage) × (new ≡ old)
 Answered NoOriginal old step new = (step ≡ NoOriginal) × (new ≡ old)
 Answered (Failed left) old step new = (step ≡ Failed left) × (new ≡ old)
 
--- behind a call that failed
+-- the step after a call that failed
 abbrev pub failed_after : Step → Step
 failed_after (Read block) = Failed Same
 failed_after (Write block) = Failed Unsure
@@ -38,7 +38,7 @@ failed_after NoImage = NoImage
 failed_after NoOriginal = NoOriginal
 failed_after (Failed left) = Failed left
 
--- a step behind which nothing comes
+-- a step that nothing follows
 abbrev pub IsEnd : Step → Type 0
 IsEnd (Read block) = ⊥
 IsEnd (Write block) = ⊥

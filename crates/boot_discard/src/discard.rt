@@ -3,10 +3,10 @@ use crate::step::{Left, Step};
 use page_core::Page;
 use sig_header::take_back;
 
-/// The image of an area is given up: a value that its caller asks for the next call and tells how that one went.
+/// Gives up the image of an area: a value that its caller asks for the next call and tells how that call went.
 #[derive(Clone, Copy, Debug, PartialEq, Eq)]
 pub struct Discard {
-    /// The call that is to be made, or how it ended.
+    /// The call that is to be made, or how the discard ended.
     pub step: Step,
 }
 
@@ -16,7 +16,7 @@ impl Discard {
     ghost use Rattle.boot_discard.specs.Steps.{Answered, IsEnd, failed_after};
     ghost use Rattle.boot_discard.specs.declared.step.Step.{Step};
 
-    /// Before the header block is read.
+    /// Returns a discard before the header block is read.
     pub fn new(header: u64) -> Discard
         ensures { result.step ≡ Step.Read header }
     {
@@ -25,15 +25,15 @@ impl Discard {
         }
     }
 
-    /// The call that is to be made, or how it ended.
+    /// Returns the call that is to be made, or how the discard ended.
     pub fn next(&self) -> Step
         ensures { result ≡ self.now.step }
     {
         self.step
     }
 
-    /// Tells that the pending call was made. `page` is the caller's buffer: after the read it has what the disk gave. Where
-    /// the next call is a write, what is written is in it.
+    /// Records that the pending call was made. `page` is the caller's buffer: after the read it holds what the disk
+    /// gave, and if the next call is a write, it receives what is to be written.
     pub fn answer(&mut self, page: &mut Page)
         ensures answered { Answered self.old.step page.old self.new.step page.new }
         ensures over { IsEnd self.old.step → self.new ≡ self.old }
@@ -46,7 +46,7 @@ impl Discard {
         }
     }
 
-    /// Tells that the pending call failed. After the end nothing changes.
+    /// Records that the pending call failed. After the end nothing changes.
     pub fn fail(&mut self)
         ensures failed { self.new.step ≡ failed_after self.old.step }
         ensures over { IsEnd self.old.step → self.new ≡ self.old }
@@ -62,7 +62,8 @@ impl Discard {
 
 ghost use Rattle.boot_discard.specs.Steps.{IsBehindRead};
 
-/// What follows the read of the header block, which becomes the block taken back where that is written.
+/// Returns the step after the read of the header block, and replaces the block by the block taken back if that is to be
+/// written.
 fn step_behind(page: &mut Page, block: u64) -> Step
     ensures { IsBehindRead block page.old page.new result }
 {

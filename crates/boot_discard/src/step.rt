@@ -1,17 +1,17 @@
-/// What a caller is asked for, or how it ended.
+/// What a caller is asked for, or how the discard ended.
 #[derive(Clone, Copy, Debug, PartialEq, Eq)]
 pub enum Step {
-    /// The block is to be read into the buffer.
+    /// The block must be read into the buffer.
     Read { block: u64 },
-    /// The buffer is to be written to the block.
+    /// The buffer must be written to the block.
     Write { block: u64 },
-    /// What was written is to be on the disk before the answer.
+    /// What was written must be on the disk before the answer.
     Sync,
-    /// The mark is taken back, and synced.
+    /// The mark was taken back, and the write synced.
     Discarded,
     /// The header block isn't marked. Nothing was written.
     NoImage,
-    /// The original signature is that of an image too, so there is nothing to take the mark back to. Nothing was written.
+    /// The original signature is an image's too, so there is nothing to take the mark back to. Nothing was written.
     NoOriginal,
     /// A call failed.
     Failed { left: Left },
@@ -22,6 +22,6 @@ pub enum Step {
 pub enum Left {
     /// The read failed: the disk is as it was.
     Same,
-    /// The write or the sync failed: the image is there, or it was taken back.
+    /// The write or the sync failed: the image is still present, or it was taken back.
     Unsure,
 }

@@ -1,4 +1,4 @@
--- What is known once the info page or a number page was taken.
+-- What is known once the info page or a number page was accepted.
 use Rattle.std.specs.Prelude.{◌≡◌, ℕ, ◌*◌, ◌<◌, ◌⊎◌, Some, None, Result}
 use Rattle.std.specs.Prelude.{Ok, Err}
 use Rattle.definitions.specs.Disk.{DiskImage}
@@ -8,13 +8,13 @@ use Rattle.boot_resume.specs.declared.cause.Cause.{Cause}
 use Rattle.boot_resume.specs.declared.machine.Machine.{Machine}
 use Rattle.boot_resume.specs.declared.reading.Reading.{Reading}
 
--- what has nothing to do with numbers stays
+-- what doesn't depend on the numbers stays the same
 pub record IsKept (old new : Reading) : Type 0 where
   pub mark : new.mark ≡ old.mark
   pub page : new.page ≡ old.page
   pub map : new.map ≡ old.map
 
--- so many numbers were listed, up to page k of the stream; the last ones, or there are more
+-- the numbers up to page k of the stream were listed; either they are the last ones, or there are more
 pub record Tallied (m : Machine) (v : DiskImage) (k : ℕ) (r : Reading) : Type 0 where
   pub counted : Counted m v r
   pub last : r.last ≡ number_before m v r.given

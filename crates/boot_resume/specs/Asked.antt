@@ -1,4 +1,4 @@
--- What a resume has asked, whatever the disk gave: the calls that were made, the newest first.
+-- The calls that a resume has made, the newest first, whatever the disk answered.
 use Rattle.std.specs.Prelude.{◌≡◌, ℕ, ◌<◌, List, [], ◌∷◌, ◌++◌, true, nat_lt, Option, Some, None, Result, Ok, Err}
 use Rattle.std.specs.Prelude.{if◌then◌else◌}
 use Rattle.boot_resume.specs.Ends.{IsEnd}
@@ -29,7 +29,7 @@ newest (Done n ∷ made) = newest made
 newest (Refused why ∷ made) = newest made
 newest (Failed call left ∷ made) = newest made
 
--- The first four calls: the header block was written taken back, and the sync behind that was done.
+-- The first four calls: the header block was written back with its mark taken back, and the sync after that was done.
 abbrev pub first_calls : Machine → List Call
 first_calls m = Sync ∷ Write m.header ∷ Read m.header ∷ Sync ∷ []
 
@@ -40,12 +40,12 @@ abbrev pub IsAbove : Option ℕ → ℕ → Type 0
 IsAbove None p = Unit {0}
 IsAbove (Some last) p = last < p
 
--- a page frame of memory, above the one that was handed out last
+-- a page frame of memory above the one that was handed out last
 abbrev pub MayPlace : Machine → ℕ → Option ℕ → Type 0
 MayPlace m p last = (is_memory m.memory p ≡ true) × IsAbove last p
 
--- A page is handed out behind the first four calls alone, each page frame is above those before it, and what is written
--- is the block of the header, once, right behind its read.
+-- A page is handed out only after the first four calls, each page frame is above those before it, and the only write is
+-- that of the header block, once, directly after its read.
 abbrev pub IsSafe : Machine → List Call → Type 0
 IsSafe m [] = Unit {0}
 IsSafe m (Page p ∷ made) = IsTakenBack m made × (MayPlace m p (newest made) × IsSafe m made)
@@ -59,7 +59,7 @@ IsSafe m (Failed call left ∷ made) = IsSafe m made
 abbrev pub HasBegun : Machine → List Call → Type 0
 HasBegun m made = IsTakenBack m made × IsSafe m made
 
--- at a stage, with this call pending, these calls were made
+-- the calls made before this stage with this call pending
 abbrev pub Asked : Machine → Reading → Stage → Call → List Call → Type 0
 Asked m r stage.FirstSync c made = (made ≡ []) × (c ≡ Sync)
 Asked m r stage.Header c made = (made ≡ Sync ∷ []) × (c ≡ Read m.header)
@@ -75,7 +75,7 @@ Asked m r stage.Place c made =
     HasBegun m made × ((newest made ≡ r.last) × ((c ≡ Page r.frame) × MayPlace m r.frame r.last))
 Asked m r stage.Ended c made = IsEnd c
 
--- these calls were made, and with the pending one they are safe
+-- these calls were made, and together with the pending one they are safe
 abbrev pub HasAsked : Machine → Resume → List Call → Type 0
 HasAsked m r made = Asked m r.reading r.pending.stage r.pending.call made × IsSafe m (r.pending.call ∷ made)
 
@@ -83,7 +83,7 @@ abbrev pub AsksOn : Machine → Reading → List Call → Result Move Cause → 
 AsksOn m r made (Ok to) = Asked m r to.stage to.call made
 AsksOn m r made (Err why) = Unit {0}
 
--- which of its caller's calls failed; an end is none
+-- which of the caller's calls failed; a call that ends the resume can't
 abbrev pub failed_by : Call → FailedCall
 failed_by Sync = failed.Sync
 failed_by (Read b) = failed.Read
@@ -93,7 +93,7 @@ failed_by (Done n) = failed.Page
 failed_by (Refused why) = failed.Page
 failed_by (Failed call left) = call
 
--- What a failed call leaves behind so many calls: the third writes the block taken back, and the fourth syncs it.
+-- What a call that fails after `made` calls leaves: the third call writes the block taken back, the fourth syncs it.
 abbrev pub left_behind : ℕ → Left
 left_behind made = if nat_lt made 2 then left.Same else (if nat_lt made 4 then left.Unsure else left.Gone)
 

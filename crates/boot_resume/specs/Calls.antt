@@ -1,5 +1,5 @@
--- [calls]: what a resume asks over a disk that reads as v, one call after another, up to its end or the first cause.
--- In Linux: swsusp_check, swsusp_unmark and swsusp_read, kernel/power/swap.c.
+-- [calls]: the calls of a resume over a disk that reads as v, in order, up to its end or the first cause. In Linux:
+-- swsusp_check, swsusp_unmark and swsusp_read, kernel/power/swap.c.
 use Rattle.std.specs.Prelude.{ℕ, zero, suc, ◌+◌, ◌/◌, ◌%◌, ◌-◌, ◌==◌, List, [], ◌∷◌, Option, Some, None}
 use Rattle.std.specs.Prelude.{if◌then◌else◌}
 use Rattle.definitions.specs.Disk as disk
@@ -13,7 +13,7 @@ use Rattle.boot_resume.specs.declared.cause.Cause.TheVariants.{NoImage}
 use Rattle.boot_resume.specs.declared.call.Call.{Call}
 use Rattle.boot_resume.specs.declared.call.Call.TheVariants.{Sync, Read, Write, Page, Done, Refused}
 
--- a call, and the page that the buffer holds when it is asked for, where that matters
+-- a call, and the page that the buffer must hold when it is made, if that matters
 pub record Turn : Type 0 where
   pub call : Call
   pub page : Option (List ℕ)
@@ -24,24 +24,25 @@ asks call = record { call = call; page = None }
 abbrev pub asks_with : Call → List ℕ → Turn
 asks_with call page = record { call = call; page = Some page }
 
--- nothing but the cause, or these calls
+-- only the refusal if there is a cause, else these calls
 abbrev pub unless : Option Cause → List Turn → List Turn
 unless None rest = rest
 unless (Some why) rest = asks (Refused why) ∷ []
 
--- a map, or a page of the stream, and then these calls
+-- the read of a map or of a page of the stream, and then these calls
 abbrev pub map_then : Machine → disk.DiskImage → ℕ → List Turn → List Turn
 map_then m v j rest = unless (map_cause m v j) (asks (Read (map_at m v j)) ∷ rest)
 
 abbrev pub entry_then : Machine → disk.DiskImage → ℕ → List Turn → List Turn
 entry_then m v k rest = unless (page_cause m v k) (asks (Read (page_at m v k)) ∷ rest)
 
--- before each 511 pages of the stream their map
+-- page k of the stream; the first of each 511 pages is preceded by their map
 abbrev pub page_then : Machine → disk.DiskImage → ℕ → List Turn → List Turn
 page_then m v k rest =
     if k % 511 == 0 then map_then m v (k / 511) (entry_then m v k rest) else entry_then m v k rest
 
--- Before the first of 512 numbers their page is read again, by its map: a state of fixed size can't keep them all.
+-- Before the first of each 512 numbers, their page is read again through its map: a state of fixed size can't keep them
+-- all.
 abbrev pub again_then : Machine → disk.DiskImage → ℕ → List Turn → List Turn
 again_then m v i rest =
     if i % 512 == 0 then map_then m v ((1 + i / 512) / 511) (entry_then m v (1 + i / 512) rest) else rest
@@ -54,7 +55,7 @@ data_then m v i rest = if has_no_data m v i then rest else page_then m v (data_p
 abbrev pub places : Machine → disk.DiskImage → ℕ → Turn
 places m v i = asks_with (Page (number_in m v i)) (saved_page m v i)
 
--- so many numbers from number i on: the page of each
+-- the pages of the given number of numbers from number i on
 unfoldable pub handing : Machine → disk.DiskImage → ℕ → ℕ → List Turn
 handing m v i zero = asks (Done (saved_in m v)) ∷ []
 handing m v i (suc more) =
@@ -63,7 +64,7 @@ handing m v i (suc more) =
 abbrev pub handed_from : Machine → disk.DiskImage → ℕ → List Turn
 handed_from m v i = handing m v i (saved_in m v - i)
 
--- so many pages of the stream from page k on, up to the last number page, and then the pages of all numbers
+-- the given number of pages of the stream from page k on, up to the last number page, and then the pages of all numbers
 unfoldable pub listing : Machine → disk.DiskImage → ℕ → ℕ → List Turn
 listing m v k zero = handed_from m v 0
 listing m v k (suc more) = page_then m v k (unless (content_cause m v k) (listing m v (k + 1) more))
@@ -71,7 +72,7 @@ listing m v k (suc more) = page_then m v k (unless (content_cause m v k) (listin
 abbrev pub listed_from : Machine → disk.DiskImage → ℕ → List Turn
 listed_from m v k = listing m v k (meta_in m v + 1 - k)
 
--- from the write of the block taken back on
+-- the calls after the write of the block taken back
 abbrev pub settled_then : Machine → disk.DiskImage → List Turn
 settled_then m v = asks Sync ∷ unless (hardware_cause m (mark_in m v)) (listed_from m v 0)
 

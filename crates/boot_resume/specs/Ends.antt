@@ -12,6 +12,6 @@ is_end (Done n) = true
 is_end (Refused why) = true
 is_end (Failed call left) = true
 
--- a call behind which nothing comes
+-- a call that nothing follows
 abbrev pub IsEnd : Call → Type 0
 IsEnd c = IsTrue (is_end c)

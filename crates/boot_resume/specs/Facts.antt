@@ -1,4 +1,4 @@
--- A machine as lists and numbers: what its caller says of it, wherever that lies in memory.
+-- A machine as lists and numbers: what its caller says of it, independent of where that lies in memory.
 use Rattle.std.specs.Prelude.{ℕ, List, Option, Some, None}
 use Rattle.definitions.specs.declared.info.Ident.{Ident}
 use Rattle.boot_resume.specs.declared.machine.FrameRange.{FrameRange}

@@ -43,7 +43,7 @@ abbrev pub has_done : List Turn → Bool
 has_done [] = false
 has_done (turn ∷ rest) = is_done turn.call || has_done rest
 
--- the first ones of them, and where the calls end well all of them
+-- these turns hand out the first of the page frames, and all of them if they end in Done
 pub record Places (turns : List Turn) (frames : List Placed) : Type 0 where
   pub rest : List Placed
   pub front : frames ≡ placed turns ++ rest

@@ -1,4 +1,4 @@
--- What the listing of a number page answers.
+-- What the listing of a number page returns.
 use Rattle.std.specs.Prelude.{◌≡◌, ℕ, ◌+◌, ◌*◌, map, Option, Some, None, Result, Ok, Err}
 use Rattle.std.specs.List.{range_with_len}
 use Rattle.definitions.specs.Disk.{DiskImage}
@@ -8,11 +8,12 @@ use Rattle.boot_resume.specs.declared.cause.Cause.{Cause}
 use Rattle.boot_resume.specs.declared.machine.Machine.{Machine}
 use Rattle.boot_resume.specs.declared.numbers.Tally.{Tally}
 
--- the first cause of so many numbers from number j on
+-- the first cause among the given number of numbers from number j on
 abbrev pub first_cause : Machine → DiskImage → ℕ → ℕ → Option Cause
 first_cause m v j count = first_some (map (number_cause m v) (range_with_len j count))
 
--- nothing is wrong with the first numbers of page q, and this is the tally with them; or their first cause
+-- either nothing is wrong with the first numbers of page q and this is the tally with them, or this is their first
+-- cause
 abbrev pub Lists : Machine → DiskImage → ℕ → ℕ → Result Tally Cause → Type 0
 Lists m v q count (Ok tally) =
     (first_cause m v (512 * q) count ≡ None)

@@ -1,4 +1,4 @@
--- The mark of a header block, where it has one.
+-- The mark of a header block, if it has one.
 use Rattle.std.specs.Prelude.{ℕ, List, Option, Some, None, if◌then◌else◌}
 use Rattle.definitions.specs.SwapHeader.{image_signature, sig_of}
 use Rattle.sig_header.specs.AreaKind.{mark_of, same_bytes}

@@ -1,6 +1,5 @@
--- What a disk says of its image, by place, and what is wrong with it.
--- In Linux: swsusp_check and swsusp_read, kernel/power/swap.c; load_header, check_header and unpack_orig_pfns,
--- kernel/power/snapshot.c.
+-- What a disk says of its image, place by place, and what is wrong with that. In Linux: swsusp_check and swsusp_read,
+-- kernel/power/swap.c; load_header, check_header and unpack_orig_pfns, kernel/power/snapshot.c.
 use Rattle.std.specs.Prelude.{ℕ, zero, suc, ◌+◌, ◌*◌, ◌/◌, ◌%◌, ◌-◌, ◌==◌, ◌&&◌, ◌||◌, List, Bool, not}
 use Rattle.std.specs.Prelude.{nat_le, nat_eq, min, map, Option, Some, None, if◌then◌else◌}
 use Rattle.std.specs.List.{range_with_len}
@@ -24,7 +23,7 @@ use Rattle.boot_resume.specs.declared.machine.Machine.{Machine}
 use Rattle.boot_resume.specs.declared.cause.Cause.{Cause}
 use Rattle.boot_resume.specs.declared.cause.Cause.TheVariants as cause
 
--- What it says, untested.
+-- What the image says, untested.
 
 abbrev pub header_in : Machine → disk.DiskImage → List ℕ
 header_in m v = disk.block v m.header
@@ -35,7 +34,7 @@ mark_in m v = mark_of (header_in m v)
 abbrev pub format_by : ℕ → Format
 format_by flags = if is_set flags 256 then SkipZeros else Plain
 
--- map j of the chain lies in this block, and page k of the stream in that one
+-- the block of map j of the chain, and that of page k of the stream
 abbrev pub map_at : Machine → disk.DiskImage → ℕ → ℕ
 map_at m v j = map_block v (mark_in m v).first j
 
@@ -70,14 +69,14 @@ abbrev pub data_before : Machine → disk.DiskImage → ℕ → ℕ
 data_before m v zero = 0
 data_before m v (suc j) = if has_no_data m v j then data_before m v j else suc (data_before m v j)
 
--- the page of number i: the data pages stand in the order of their numbers, behind the number pages
+-- the place of number i's page: the data pages stand in the order of their numbers, after the number pages
 abbrev pub data_place : Machine → disk.DiskImage → ℕ → ℕ
 data_place m v i = 1 + meta_in m v + data_before m v i
 
 abbrev pub saved_page : Machine → disk.DiskImage → ℕ → List ℕ
 saved_page m v i = if has_no_data m v i then zero_page else stream_page m v (data_place m v i)
 
--- What is wrong with it.
+-- What is wrong with the image.
 
 abbrev pub mode_cause : Mark → Option Cause
 mode_cause mark = if not (is_set mark.flags 2) then Some (cause.Compressed mark.flags) else None
@@ -91,7 +90,7 @@ hardware_cause m mark =
     if is_set mark.flags 8 && not (mark.hw_sig == m.hardware_signature)
     then Some (cause.HwMismatch mark.hw_sig m.hardware_signature) else None
 
--- map j, when it is wanted and named by this number
+-- map j, which is wanted, named by block number x
 abbrev pub map_fault : Machine → ℕ → ℕ → ℕ → Option Cause
 map_fault m last j x =
     if x == 0 then Some (if j == 0 then cause.NoChain else cause.ChainEnds j) else block_fault m last x
@@ -106,7 +105,7 @@ abbrev pub field_cause : Option Field → Option Cause
 field_cause None = None
 field_cause (Some field) = Some (cause.Mismatch field)
 
--- an architecture's bytes are compared whole
+-- the bytes of an architecture's header are compared as a whole
 abbrev pub identity_cause : Compared → List ℕ → Option Cause
 identity_cause any_kernel page = None
 identity_cause (same_kernel ident) page = field_cause (mismatch (info_of page).ident ident)
@@ -127,7 +126,7 @@ info_cause m format page =
     or_else (identity_cause m.identity page)
     (or_else (memory_cause m (info_of page)) (counts_cause m format (info_of page)))
 
--- a page frame number behind this one: it is none of memory, or not above it
+-- page frame p isn't above the number before it
 abbrev pub order_fault : Option ℕ → ℕ → Option Cause
 order_fault None p = None
 order_fault (Some last) p = if nat_le p last then Some (cause.PfnOrder last p) else None
@@ -142,7 +141,7 @@ number_before m v (suc j) = Some (number_in m v j)
 abbrev pub number_cause : Machine → disk.DiskImage → ℕ → Option Cause
 number_cause m v j = number_fault m (number_before m v j) (number_in m v j)
 
--- the word behind the last of n numbers, where that one's page isn't full
+-- the word after the last of n numbers, if their last page isn't full
 abbrev pub end_fault : List ℕ → ℕ → Option Cause
 end_fault page n =
     if (n % 512 == 0) || (word page (n % 512) == end_value) then None else Some (cause.PfnEnd (word page (n % 512)))
@@ -150,7 +149,7 @@ end_fault page n =
 abbrev pub end_cause : Machine → disk.DiskImage → Option Cause
 end_cause m v = end_fault (stream_page m v (meta_in m v)) (saved_in m v)
 
--- the data pages are as many as the info page says
+-- whether the number of data pages is the one that the info page implies
 abbrev pub listed_fault : ℕ → ℕ → ℕ → Option Cause
 listed_fault n pages with_data =
     if pages == with_data + meta_of n + 1 then None else Some (cause.BadCounts n pages)

@@ -1,4 +1,4 @@
--- Why what a caller says of its machine can't be so: the first fault.
+-- Why what a caller says of its machine is impossible: the first fault.
 use Rattle.std.specs.Prelude.{◌≡◌, ℕ, ◌+◌, ◌^◌, ◌<◌, ◌≤◌, ◌&&◌, ◌⊎◌, List, [], ◌∷◌, nat_lt, nat_le, Option, Some, None}
 use Rattle.std.specs.Prelude.{if◌then◌else◌}
 use Rattle.boot_resume.specs.Memory.{AreApart}
@@ -6,7 +6,7 @@ use Rattle.boot_resume.specs.declared.machine.FrameRange.{FrameRange}
 use Rattle.boot_resume.specs.declared.machine.MachineFault.{MachineFault}
 use Rattle.boot_resume.specs.declared.machine.MachineFault.TheVariants.{Memory, Present, Header}
 
--- The first of some ranges that is empty, or begins below the end of the one before; the ranges count from `index`.
+-- The first range that is empty or begins below the end of the one before; the ranges count from `index`.
 abbrev pub misplaced : (floor index : ℕ) → List FrameRange → Option ℕ
 misplaced floor index [] = None
 misplaced floor index (r ∷ rs) =

@@ -19,7 +19,7 @@ use Rattle.boot_resume.specs.declared.reading.Reading.{Reading}
 use Rattle.boot_resume.specs.declared.stage.Stage.{Stage}
 use Rattle.boot_resume.specs.declared.stage.Stage.TheVariants as stage
 
--- what a call was answered with: a read gives the block as the disk reads
+-- what the disk answers to a call: a read gives the block as the disk reads
 abbrev pub IsAnswer : DiskImage → Call → List ℕ → Type 0
 IsAnswer v (Read b) page = page ≡ block v b
 IsAnswer v Sync page = Unit {0}
@@ -29,16 +29,16 @@ IsAnswer v (Done n) page = Unit {0}
 IsAnswer v (Refused why) page = Unit {0}
 IsAnswer v (Failed call left) page = Unit {0}
 
--- the buffer holds the page, where a call has one
+-- the buffer holds the page, if the call has one
 abbrev pub Fits : List ℕ → Option (List ℕ) → Type 0
 Fits page None = Unit {0}
 Fits page (Some wanted) = page ≡ wanted
 
--- number i and what follows it, once its page was read again
+-- number i and what follows it, once its number page was read again
 abbrev pub from_number : Machine → DiskImage → ℕ → List Turn
 from_number m v i = unless (number_cause m v i) (data_then m v i (places m v i ∷ handed_from m v (i + 1)))
 
--- the turns behind the pending one
+-- the turns after the pending one
 abbrev pub behind : Machine → DiskImage → Reading → Stage → List Turn
 behind m v r stage.FirstSync = asks (Read m.header) ∷ marked_then m v
 behind m v r stage.Header = marked_then m v
@@ -59,7 +59,7 @@ pub record Counted (m : Machine) (v : DiskImage) (r : Reading) : Type 0 where
   pub pages : r.pages ≡ (info_in m v).pages
   pub some : 0 < r.saved
 
--- so many numbers were listed, those of the number pages before page k of the stream
+-- the numbers of the number pages before page k of the stream were listed
 pub record ListsNumbers (m : Machine) (v : DiskImage) (r : Reading) : Type 0 where
   pub counted : Counted m v r
   pub begun : 0 < r.page
@@ -141,7 +141,7 @@ Knows m v r stage.DataPage c = Numbered m v r × ((c ≡ Read (page_at m v r.pag
 Knows m v r stage.Place c = Placing m v r × (c ≡ Page r.frame)
 Knows m v r stage.Ended c = IsEnd c
 
--- these turns are the pending call with the buffer's page, and those behind it
+-- these turns are the pending call with the buffer's page, and the turns after it
 pub record Goes (m : Machine) (v : DiskImage) (r : Reading) (page : List ℕ) (turns : List Turn)
     (s : Stage) (c : Call) : Type 0 where
   pub turn : Turn
@@ -154,7 +154,7 @@ pub record Goes (m : Machine) (v : DiskImage) (r : Reading) (page : List ℕ) (t
 abbrev pub IsAt : Machine → DiskImage → Resume → List ℕ → ℕ → Type 0
 IsAt m v r page k = Goes m v r.reading page (drop k (calls m v)) r.pending.stage r.pending.call
 
--- a move to the first of these turns, or the cause that is all of them
+-- either a move to the first of these turns, or the cause, if these turns are only its refusal
 abbrev pub Leads : Machine → DiskImage → Reading → List ℕ → List Turn → Result Move Cause → Type 0
 Leads m v r page turns (Ok to) = Goes m v r page turns to.stage to.call
 Leads m v r page turns (Err why) = turns ≡ asks (Refused why) ∷ []

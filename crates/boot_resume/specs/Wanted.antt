@@ -1,4 +1,4 @@
--- What is wanted next for a page of the stream.
+-- The next read that a page of the stream needs.
 use Rattle.std.specs.Prelude.{◌≡◌, ℕ, ◌/◌, ◌%◌, ◌-◌, ◌<◌, ◌==◌, ◌⊎◌, List, [], ◌∷◌, Result, Ok, Err, if◌then◌else◌}
 use Rattle.definitions.specs.Disk.{DiskImage, block}
 use Rattle.definitions.specs.SwapMap.{map_entry, map_link}
@@ -16,7 +16,7 @@ use Rattle.boot_resume.specs.declared.stage.Stage.{Stage}
 abbrev pub entry_of : List ℕ → ℕ → ℕ
 entry_of map k = map_entry map (k % 511)
 
--- the block of the map that begins with page k: the header names the first, and a map the next one
+-- the block of the map whose first page is page k: the header names the first map, each map the next one
 abbrev pub begun_map : Mark → ℕ → List ℕ → ℕ
 begun_map mark k map = if k == 0 then mark.first else map_link map
 
@@ -28,7 +28,7 @@ IsMap m v map j = map ≡ block v (map_at m v j)
 abbrev pub HasMapBefore : Machine → DiskImage → List ℕ → ℕ → Type 0
 HasMapBefore m v map k = 0 < k → IsMap m v map ((k - 1) / 511)
 
--- the map that names page k is read, or the page by its map
+-- the next read is that of page k's map, or that of page k through its map
 pub record WantsMap (m : Machine) (v : DiskImage) (k : ℕ) (stages : Stage
     × Stage) (rest turns : List Turn) (to : Move) : Type 0 where
   pub stage : to.stage ≡ stages.0
@@ -56,6 +56,6 @@ IsRead (Done n) = ⊥
 IsRead (Refused why) = ⊥
 IsRead (Failed call left) = ⊥
 
--- a read, at one of these stages
+-- a read for one of these stages
 abbrev pub IsReadAt : Stage × Stage → Move → Type 0
 IsReadAt stages to = IsRead to.call × ((to.stage ≡ stages.0) ⊎ (to.stage ≡ stages.1))

@@ -1,25 +1,25 @@
 use crate::cause::Cause;
 
-/// What a resume asks of its caller, or how it ended.
+/// What a resume asks its caller for, or how it ended.
 #[derive(Clone, Copy, Debug, PartialEq, Eq)]
 pub enum Call {
-    /// What was written is to be on the disk before the answer.
+    /// What was written must be on the disk before the answer.
     Sync,
-    /// The block is to be read into the buffer.
+    /// The block must be read into the buffer.
     Read { block: u64 },
-    /// The buffer is to be written to the block.
+    /// The buffer must be written to the block.
     Write { block: u64 },
-    /// The buffer is the page of this page frame.
+    /// The buffer holds the page of this page frame.
     Page { frame: u64 },
-    /// Each page was handed out, so many.
+    /// All pages were handed out; `pages` is their number.
     Done { pages: u64 },
-    /// The image isn't resumed: the first cause of what the bytes say.
+    /// The image isn't resumed, for the first cause that was found in its bytes.
     Refused(Cause),
-    /// A call failed, and the resume is given up.
+    /// A call failed, and the resume has ended.
     Failed { call: FailedCall, left: Left },
 }
 
-/// Which call of its caller ended a resume.
+/// The call of its caller that ended a resume.
 #[derive(Clone, Copy, Debug, PartialEq, Eq)]
 pub enum FailedCall {
     Sync,
@@ -33,7 +33,7 @@ pub enum FailedCall {
 pub enum Left {
     /// The disk is as it was.
     Same,
-    /// The image is there, or it was taken back.
+    /// The image is still present, or it was taken back.
     Unsure,
     /// The image was taken back.
     Gone,
@@ -43,7 +43,7 @@ impl Call {
     ghost use Rattle.std.specs.Prelude.{◌≡◌};
     ghost use Rattle.boot_resume.specs.Ends.{is_end};
 
-    /// Whether nothing comes behind it.
+    /// Returns whether no call follows this one.
     pub fn is_end(&self) -> bool
         ensures { result ≡ is_end self.now }
     {
@@ -59,7 +59,7 @@ impl Call {
 ghost use Rattle.std.specs.Prelude.{◌≡◌};
 ghost use Rattle.boot_resume.specs.Asked.{failed_by};
 
-/// Which call it is that failed. An end is none.
+/// Returns which call failed; a call that ends the resume can't.
 pub(crate) fn failed_call(call: Call) -> FailedCall
     ensures { result ≡ failed_by call }
 {

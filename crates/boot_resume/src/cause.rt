@@ -19,7 +19,7 @@ pub enum Cause {
     /// A block that an image may not name.
     #[error("bad block {block}")]
     BadBlock { block: u64 },
-    /// A map has no next one, though entries are wanted. Maps count from 1.
+    /// A map has no next one, though more entries are wanted. Maps count from 1.
     #[error("chain ends {map}")]
     ChainEnds { map: u64 },
     /// The first field in which the image's identity isn't the machine's.
@@ -28,16 +28,16 @@ pub enum Cause {
     /// The 390 bytes of an architecture's header aren't the machine's.
     #[error("mismatch architecture")]
     Architecture,
-    /// The image's number of page frames isn't the machine's.
+    /// The image counts another number of page frames than the machine.
     #[error("memory size {image} own {own}")]
     MemorySize { image: u64, own: u64 },
-    /// Numbers of pages that don't fit the machine, one another, or the frame numbers.
+    /// Numbers of pages that don't fit the machine, each other, or the page frame numbers.
     #[error("bad counts {image_pages} {pages}")]
     BadCounts { image_pages: u64, pages: u64 },
     /// Not a page frame of the machine's memory.
     #[error("bad pfn {pfn}")]
     BadPfn { pfn: u64 },
-    /// Number b isn't above a, the one before.
+    /// Number b isn't above number a, the one before it.
     #[error("pfn order {a} {b}")]
     PfnOrder { a: u64, b: u64 },
     /// The word after the last number isn't 2^64-1.

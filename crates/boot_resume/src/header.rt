@@ -10,7 +10,7 @@ use crate::machine::Machine;
 use page_core::{Format, Page};
 use sig_header::{AreaKind, Mark, SF_HW_SIG, SF_NOCOMPRESS_MODE, SF_SKIPS_ZEROS};
 
-/// What a marked header block says, where a resume can read its image.
+/// Returns the mark of a header block, if a resume can read its image.
 pub(crate) fn read_mark(page: &Page) -> Result<Mark, Cause>
     ensures tests { Tests (header_cause page.now) result }
     ensures mark { IfOk result (λ mark. mark ≡ mark_of page.now) }
@@ -21,7 +21,7 @@ pub(crate) fn read_mark(page: &Page) -> Result<Mark, Cause>
     }
 }
 
-/// Whether the image isn't compressed.
+/// Passes the mark on if the image isn't compressed.
 fn check_mode(mark: Mark) -> Result<Mark, Cause>
     ensures tests { Tests (mode_cause mark) result }
     ensures mark { IfOk result (λ m. m ≡ mark) }
@@ -51,7 +51,7 @@ fn mark_of_kind(kind: AreaKind) -> Option<Mark>
     }
 }
 
-/// Whether the hardware signature is the machine's, where the mark carries one.
+/// Checks that the hardware signature is the machine's, if the mark carries one.
 pub(crate) fn check_hardware(machine: &Machine, mark: &Mark) -> Result<(), Cause>
     ensures { Tests (hardware_cause machine.now mark.now) result }
 {
@@ -65,7 +65,7 @@ pub(crate) fn check_hardware(machine: &Machine, mark: &Mark) -> Result<(), Cause
     Ok(())
 }
 
-/// How the image has its pages of zeros.
+/// Returns how the image stores its pages of zeros.
 pub(crate) fn format_of(mark: &Mark) -> Format
     ensures { result ≡ format_by mark.now.flags }
 {

@@ -22,7 +22,7 @@ pub(crate) struct Counts {
     pub pages: u64,
 }
 
-/// What the info page says, where the image is one of this machine's.
+/// Returns the counts of an info page, if the image is one of this machine's.
 pub(crate) fn read_info(machine: &Machine, format: Format, page: &Page) -> Result<Counts, Cause>
     ensures tests { Tests (info_cause machine.now format page.now) result }
     ensures saved { IfOk result (λ counts. counts.saved ≡ (info_of page.now).image_pages) }
@@ -57,7 +57,7 @@ fn check_identity(identity: Option<Identity>, info: &Info, page: &Page) -> Resul
     }
 }
 
-/// Whether the image's kernel is the machine's.
+/// Checks that the image's kernel is the machine's.
 fn check_kernel(info: &Info, own: &Ident) -> Result<(), Cause>
     ensures { Tests (field_cause (mismatch info.now.ident own.now)) result }
 {
@@ -80,7 +80,7 @@ fn check_memory(machine: &Machine, info: &Info) -> Result<(), Cause>
     Ok(())
 }
 
-/// Whether the counts fit the machine and one another (`load_header`, kernel/power/snapshot.c).
+/// Checks that the counts fit the machine and each other (`load_header`, kernel/power/snapshot.c).
 fn check_counts(machine: &Machine, format: Format, info: &Info) -> Result<(), Cause>
     ensures tests { Tests (counts_cause machine.now format info.now) result }
     ensures some { IfOk result (λ _. 0 < info.now.image_pages) }

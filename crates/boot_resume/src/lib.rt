@@ -1,6 +1,6 @@
-//! A resume as a value that asks: it names the next call of the disk or the page frame that a page belongs to, and is
-//! told how that went. It makes no call itself and takes no memory, so a boot loader can embed it (kernel/power/swap.c,
-//! swsusp_check and swsusp_read).
+//! A resume as a value that asks: it names the next call of the disk, or the page frame that a page belongs to, and is
+//! told how that went. It makes no call itself and allocates no memory, so a boot loader can embed it
+//! (kernel/power/swap.c, swsusp_check and swsusp_read).
 #![tactic(auto)]
 
 mod call;

@@ -6,7 +6,7 @@ use definitions::Ident;
 use std::marker::Model;
 use thiserror::Error;
 
-/// The page frames from `start` up to before `end` are memory.
+/// The page frames of memory from `start` up to, but not including, `end`.
 #[repr(C)]
 #[derive(Clone, Copy, Debug, PartialEq, Eq)]
 pub struct FrameRange {
@@ -14,23 +14,23 @@ pub struct FrameRange {
     pub end: u64,
 }
 
-/// What an image is to say of the kernel that made it.
+/// What an image must say of the kernel that made it.
 #[derive(Clone, Copy)]
 pub enum Identity<'a> {
     /// The version code and four of the six names, each up to its first zero byte (`check_image_kernel`,
     /// kernel/power/snapshot.c).
     Generic(&'a Ident),
-    /// All 390 bytes at the begin of the info page, where an architecture has its own header.
+    /// All 390 bytes at the beginning of the info page, if the architecture has its own header.
     Architecture(&'a [u8; 390]),
 }
 
-/// Why what a caller says of its machine can't be so.
+/// Why what a caller says of its machine is impossible.
 #[derive(Clone, Copy, Debug, PartialEq, Eq, Error)]
 pub enum MachineFault {
-    /// A range is empty, or doesn't begin behind the one before it.
+    /// A range is empty, or doesn't begin after the one before it.
     #[error("range {index} of memory")]
     Memory { index: usize },
-    /// There are no page frames, or 2^52 and more.
+    /// There are no page frames, or at least 2^52.
     #[error("{present} page frames")]
     Present { present: u64 },
     /// The header's block isn't one of the disk's.
@@ -39,7 +39,7 @@ pub enum MachineFault {
 }
 
 /// The machine that an image is resumed into, and the place of the swap area, as the caller lends them. A contract sees
-/// what they say, and not where they lie: two machines of the same ranges and numbers are one.
+/// only their values, not where they lie: two machines with the same ranges and numbers are equal.
 #[derive(Drop)]
 pub struct Machine<'a> {
     memory: &'a [FrameRange],
@@ -68,10 +68,10 @@ impl<'a> Machine<'a> {
     ghost use Rattle.boot_resume.specs.Ranges.{IsMachineFault};
     ghost use Rattle.boot_resume.specs.Memory.{AreApart, block_fault, is_memory, Names};
 
-    /// `memory` are the ranges of page frames that are memory, ascending and apart; `present` says how many page frames
-    /// the kernel counts (`num_physpages`), which may be fewer or more than the ranges have. An image that carries a
-    /// hardware signature must carry this one. The disk has so many blocks of 4096 bytes, and the area's header lies
-    /// in block `header`.
+    /// Returns a machine. `memory` has the ranges of page frames that are memory, in ascending order and apart from
+    /// each other; `present` is the number of page frames that the kernel counts (`num_physpages`), which may be fewer
+    /// or more than the ranges have. An image that carries a hardware signature must carry this one. The disk has
+    /// `blocks` blocks of 4096 bytes, and the area's header lies in block `header`.
     pub fn new(
         memory: &'a [FrameRange],
         present: u64,
@@ -129,7 +129,7 @@ impl<'a> Machine<'a> {
         self.header
     }
 
-    /// Whether a page frame is memory.
+    /// Returns whether a page frame is memory.
     pub(crate) fn is_memory(&self, frame: u64) -> bool
         ensures { result ≡ is_memory self.now.memory frame }
     {
@@ -138,7 +138,7 @@ impl<'a> Machine<'a> {
             .any(|range| range.start <= frame && frame < range.end)
     }
 
-    /// A block that an image names, where it may. The area's last page is `last`.
+    /// Returns a block that an image names, if the image may name it. `last` is the area's last page.
     pub(crate) fn checked(&self, last: u32, block: u64) -> Result<u64, Cause>
         ensures { Names (block_fault self.now last block) block result }
     {

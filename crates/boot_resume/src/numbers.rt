@@ -17,17 +17,17 @@ pub(crate) const NUMBERS: u64 = 512;
 /// The bit of a number whose page has no data page.
 const ZERO_BIT: u64 = 1 << 63;
 
-/// What follows the last number where its page isn't full (BM_END_OF_MAP).
+/// What follows the last number if its page isn't full (BM_END_OF_MAP).
 const END: u64 = u64::MAX;
 
-/// How many numbers the next page has, where so many are left.
+/// Returns how many numbers the next page has if `left` numbers are left.
 pub(crate) fn numbers_in_page(left: u64) -> u64
     ensures { result ≡ min 512 left }
 {
     if left < NUMBERS { left } else { NUMBERS }
 }
 
-/// One number more than so many, but no more than there are.
+/// Returns one more than `given`, but no more than `saved`.
 pub(crate) fn one_more(given: u64, saved: u64) -> u64
     ensures next { given < saved → result ≡ given + 1 }
     ensures within { given ≤ saved → result ≤ saved }
@@ -36,7 +36,7 @@ pub(crate) fn one_more(given: u64, saved: u64) -> u64
     if given < saved { given + 1 } else { given }
 }
 
-/// The page frame of a number's word.
+/// Returns the page frame of a number's word.
 pub(crate) fn frame_of(format: Format, word: u64) -> u64
     ensures { result ≡ number_by format word }
 {
@@ -46,7 +46,7 @@ pub(crate) fn frame_of(format: Format, word: u64) -> u64
     }
 }
 
-/// Whether the page of a number is zeros, and no data page.
+/// Returns whether the page of a number is zeros and has no data page.
 pub(crate) fn has_no_data(format: Format, word: u64) -> bool
     ensures { result ≡ is_marked_by format word }
 {
@@ -56,7 +56,7 @@ pub(crate) fn has_no_data(format: Format, word: u64) -> bool
     }
 }
 
-/// Whether a page frame is memory, and above the one before.
+/// Checks that a page frame is memory and above the one before it.
 pub(crate) fn check_number(machine: &Machine, last: Option<u64>, frame: u64) -> Result<(), Cause>
     ensures { Tests (number_fault machine.now last frame) result }
 {
@@ -72,14 +72,14 @@ pub(crate) fn check_number(machine: &Machine, last: Option<u64>, frame: u64) -> 
     }
 }
 
-/// What was listed: the last page frame, and how many have a data page.
+/// What was listed so far: the last page frame, and how many numbers have a data page.
 #[derive(Clone, Copy)]
 pub(crate) struct Tally {
     pub last: Option<u64>,
     pub with_data: u64,
 }
 
-/// Lists the first numbers of a page, behind those of a tally.
+/// Lists the first `count` numbers of a page, after those of a tally.
 pub(crate) fn list_numbers(
     machine: &Machine,
     format: Format,
@@ -101,7 +101,7 @@ pub(crate) fn list_numbers(
     Ok(tally)
 }
 
-/// Lists one number more.
+/// Lists one more number.
 fn list_number(machine: &Machine, format: Format, word: u64, before: Tally) -> Result<Tally, Cause>
     requires { before.with_data + 1 < 2 ^ 64 }
     ensures tests { Tests (number_fault machine.now before.last (number_by format word)) result }
@@ -122,7 +122,7 @@ fn list_number(machine: &Machine, format: Format, word: u64, before: Tally) -> R
     })
 }
 
-/// Whether the word behind the last of so many numbers is the last one's, where it doesn't fill its page.
+/// Checks that the end value follows the last of `saved` numbers, if that doesn't fill its page.
 pub(crate) fn check_end(page: &Page, saved: u64) -> Result<(), Cause>
     ensures { Tests (end_fault page.now saved) result }
 {
@@ -136,7 +136,7 @@ pub(crate) fn check_end(page: &Page, saved: u64) -> Result<(), Cause>
     Ok(())
 }
 
-/// Whether the stream has as many pages as the numbers say, of which so many have a data page.
+/// Checks that the stream has as many pages as `saved` numbers need, of which `with_data` have a data page.
 pub(crate) fn check_listed(saved: u64, pages: u64, with_data: u64) -> Result<(), Cause>
     requires few { saved < 2 ^ 52 }
     requires within { with_data ≤ saved }

@@ -14,10 +14,10 @@ use crate::stage::{Move, Stage};
 use page_core::Page;
 use sig_header::Mark;
 
-/// How many entries a map has (MAP_PAGE_ENTRIES). The link is the word behind them.
+/// How many entries a map has (MAP_PAGE_ENTRIES). The link is the word after them.
 const ENTRIES: u64 = 511;
 
-/// The block of map `map`, from 0, which is named so.
+/// Returns the block of map `map`, counted from 0, if an image may name `block` as one.
 pub(crate) fn map_named(machine: &Machine, mark: &Mark, map: u64, block: u64) -> Result<u64, Cause>
     ensures { Names (map_fault machine.now mark.now.last map block) block result }
 {
@@ -31,7 +31,7 @@ pub(crate) fn map_named(machine: &Machine, mark: &Mark, map: u64, block: u64) ->
     })
 }
 
-/// The block of page `page` of the stream, by its map.
+/// Returns the block of page `page` of the stream, which its map names.
 pub(crate) fn page_named(
     machine: &Machine,
     mark: &Mark,
@@ -43,14 +43,14 @@ pub(crate) fn page_named(
     machine.checked(mark.last, map.word((page % ENTRIES) as usize))
 }
 
-/// Which map names the page of the stream, from 0.
+/// Returns which map, counted from 0, names the page of the stream.
 pub(crate) fn map_of(page: u64) -> u64
     ensures { result ≡ page / 511 }
 {
     page / ENTRIES
 }
 
-/// The block of the map that begins with the page of the stream, where `map` is the map of the page before it.
+/// Returns the block of the map whose first page is `page`; `map` is the map of the page before it.
 fn begun_map(mark: &Mark, page: u64, map: &Page) -> u64
     ensures { result ≡ begun_map mark.now page map.now }
 {
@@ -61,7 +61,7 @@ fn begun_map(mark: &Mark, page: u64, map: &Page) -> u64
     }
 }
 
-/// The block of the map of the page behind page `page`, whose map is `map`, in block `at`.
+/// Returns the block of the map of the page after `page`. The map of `page` is `map`, in block `at`.
 pub(crate) fn map_behind(page: u64, map: &Page, at: u64) -> u64
     requires { page < 2 ^ 63 }
     ensures begins { (page + 1) % 511 ≡ 0 → result ≡ map_link map.now }
@@ -74,14 +74,14 @@ pub(crate) fn map_behind(page: u64, map: &Page, at: u64) -> u64
     }
 }
 
-/// Whether a map is read before the page of the stream.
+/// Returns whether a map is read before the page of the stream.
 fn begins_map(page: u64) -> bool
     ensures { IsTrue result ↔ (page % 511 ≡ 0) }
 {
     page % ENTRIES == 0
 }
 
-/// What is read next for page `page` of the stream, where `map` is the map of the page before it.
+/// Returns the next read for page `page` of the stream; `map` is the map of the page before it.
 pub(crate) fn want(
     machine: &Machine,
     mark: &Mark,
@@ -109,7 +109,7 @@ pub(crate) fn want(
     })
 }
 
-/// The page of the stream behind this one.
+/// Returns the page of the stream after this one.
 pub(crate) fn following(page: u64) -> u64
     ensures { page < 2 ^ 63 → result ≡ page + 1 }
 {

@@ -5,7 +5,7 @@ ghost use Rattle.boot_resume.specs.Ranges.{misplaced};
 
 use crate::machine::FrameRange;
 
-/// The first range that is empty, or doesn't begin behind the one before it.
+/// Returns the first range that is empty or doesn't begin after the one before it.
 pub(crate) fn first_misplaced(memory: &[FrameRange]) -> Option<usize>
     ensures none { (result ≡ None) ↔ AreApart memory.now }
     ensures first { result ≡ misplaced 0 0 memory.now }

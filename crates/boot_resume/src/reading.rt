@@ -15,7 +15,7 @@ use crate::stage::{Move, Stage};
 use page_core::Page;
 use sig_header::{Mark, take_back};
 
-/// How far an image is read, but for the pending call.
+/// How far an image was read, not counting the pending call.
 #[derive(Drop)]
 pub struct Reading {
     /// The mark of the header block; zeros until that is read.
@@ -23,12 +23,12 @@ pub struct Reading {
     /// How many page frames were saved, and how many pages the stream has; 0 until the info page is read.
     pub saved: u64,
     pub pages: u64,
-    /// The page of the stream that is read next for the first time, and the map of the one before it.
+    /// The next page of the stream that is read for the first time, and the map of the page before it.
     pub page: u64,
     pub map: Page,
-    /// How many numbers were listed, and from the end of the list on, how many pages were handed out.
+    /// How many numbers were listed; once all are, how many pages were handed out.
     pub given: u64,
-    /// The page frame of the number before.
+    /// The page frame of the previous number.
     pub last: Option<u64>,
     /// How many of the listed numbers have a data page.
     pub with_data: u64,
@@ -63,7 +63,7 @@ impl Reading {
     ghost use Rattle.boot_resume.specs.declared.stage.Stage.TheVariants.{ListMap, ListPage, NumberMap, NumberPage};
     ghost use Rattle.boot_resume.specs.declared.stage.Stage.TheVariants.{DataMap, DataPage, Place, Ended};
 
-    /// Before anything is read.
+    /// Returns a reading before the first read.
     pub(crate) fn new() -> Reading {
         Reading {
             mark: Mark {
@@ -86,7 +86,7 @@ impl Reading {
         }
     }
 
-    /// What comes after the pending call.
+    /// Takes the answer to the pending call, and returns the next one.
     pub(crate) fn take(
         &mut self,
         pending: Move,
@@ -125,7 +125,7 @@ impl Reading {
         }
     }
 
-    /// Takes the header block, and makes it the block taken back.
+    /// Takes the header block, and replaces it in the buffer by the block taken back.
     fn take_header(&mut self, machine: &Machine, page: &mut Page) -> Result<Move, Cause>
         ensures leads { (v : DiskImage) → page.old ≡ header_in machine.now v →
             Leads machine.now v self.new page.new (behind machine.now v self.old Header) result }
@@ -159,7 +159,7 @@ impl Reading {
         )
     }
 
-    /// Takes a map, and goes on with its page.
+    /// Takes a map, and continues with the page that wanted it.
     fn take_list_map(&mut self, machine: &Machine, page: &Page) -> Result<Move, Cause>
         ensures leads { (v : DiskImage) → Listing machine.now v self.old →
             page.now ≡ block v (map_at machine.now v (self.old.page / 511)) →
@@ -199,7 +199,7 @@ impl Reading {
         }
     }
 
-    /// Takes the info page or a number page, by its place.
+    /// Accepts the info page or a number page, depending on its place.
     fn accept(&mut self, machine: &Machine, page: &Page) -> Result<(), Cause>
         ensures accepts { (v : DiskImage) → Listing machine.now v self.old →
             page.now ≡ stream_page machine.now v self.old.page →
@@ -264,7 +264,7 @@ impl Reading {
         self.want_numbers(machine)
     }
 
-    /// Reads the number page of the next number again, by its map.
+    /// Reads the number page of the next number again, through its map.
     fn want_numbers(&self, machine: &Machine) -> Result<Move, Cause>
         ensures leads { (v : DiskImage) (page : List ℕ) → Handing machine.now v self.now →
             HasMapBefore machine.now v self.now.map self.now.page → self.now.given < self.now.saved →
@@ -282,7 +282,7 @@ impl Reading {
         })
     }
 
-    /// The page of the stream that has the next number.
+    /// Returns the page of the stream that holds the next number.
     fn number_page(&self) -> u64
         ensures { result ≡ 1 + self.now.given / 512 }
     {
@@ -316,7 +316,7 @@ impl Reading {
         self.take_number(machine, page)
     }
 
-    /// Goes on with the page of the next number.
+    /// Continues with the page of the next number.
     fn take_number(&mut self, machine: &Machine, page: &mut Page) -> Result<Move, Cause>
         ensures leads { (v : DiskImage) → Handing machine.now v self.old →
             HasMapBefore machine.now v self.old.map self.old.page → self.old.given < self.old.saved →
@@ -380,7 +380,7 @@ impl Reading {
         Ok(self.place())
     }
 
-    /// Goes on behind a page that was handed out.
+    /// Continues after a page that was handed out.
     fn take_placed(&mut self, machine: &Machine, page: &mut Page) -> Result<Move, Cause>
         ensures leads { (v : DiskImage) → Placing machine.now v self.old →
             Leads machine.now v self.new page.new (handed_from machine.now v (self.old.given + 1)) result }

@@ -5,11 +5,12 @@ use crate::reading::Reading;
 use crate::stage::{Move, Stage};
 use page_core::Page;
 
-/// A resume: a value of fixed size, which its caller asks for the next call and tells how that one went. Its fields are
-/// public so that a caller can keep it in a form of his own; what the clauses promise holds of what began with `new`.
+/// A resume: a value of fixed size, which its caller asks for the next call and tells how that call went. Its fields
+/// are public so that a caller can keep it in a form of its own; the promises of the clauses hold for a value that
+/// began with `new`.
 #[derive(Drop)]
 pub struct Resume {
-    /// The call that is to be made, and what its answer is for.
+    /// The call that is to be made, and the purpose of its answer.
     pub pending: Move,
     /// What was read so far.
     pub reading: Reading,
@@ -29,11 +30,11 @@ impl Resume {
     ghost use Rattle.boot_resume.specs.declared.call.Call.{Call};
     ghost use Rattle.boot_resume.specs.declared.machine.Machine.{Machine};
 
-    /// A resume before its first call.
+    /// Returns a resume before its first call.
     pub fn new() -> Resume
         ensures at { (m : Machine) (v : DiskImage) (page : List ℕ) → IsAt m v result page 0 }
         ensures asked { (m : Machine) → HasAsked m result [] }
-        // The pages that the calls hand out are the first ones of the saved page frames, and all where they end well.
+        // The calls hand out the first pages of the saved page frames, in order, and all of them if they end in `Done`.
         ensures pages { (m : Machine) (v : DiskImage) → Places (calls m v) (saved_frames m v) }
         // Once the block is taken back, another resume finds no image.
         ensures once { (m : Machine) (v : DiskImage) (page : List ℕ) → IsPage page → header_in m v ≡ taken_back page →
@@ -48,20 +49,21 @@ impl Resume {
         }
     }
 
-    /// The call that is to be made, or how the resume ended.
+    /// Returns the call that is to be made, or how the resume ended.
     pub fn next(&self) -> Call
         ensures call { result ≡ self.now.pending.call }
-        // Over a disk that reads as v it is call k of the list, with the page that is in the buffer.
+        // Over a disk that reads as v, the result is call k of the list, with the page that is in the buffer.
         ensures turn { (m : Machine) (v : DiskImage) (page : List ℕ) (k : ℕ) → IsAt m v self.now page k →
             IsTurn m v k result page }
-        // Whatever was answered.
+        // Whatever the disk answered.
         ensures safe { (m : Machine) (made : List Call) → HasAsked m self.now made → IsSafe m (result ∷ made) }
     {
         self.pending.call
     }
 
-    /// Tells that the pending call was made. `page` is the caller's buffer: after a read it has what the disk gave. The
-    /// next call's page is in it, where that is a write or a page that is handed out. After the end nothing changes.
+    /// Records that the pending call was made. `page` is the caller's buffer: after a read it holds what the disk gave,
+    /// and if the next call is a write or hands out a page, it receives the page of that call. After the end nothing
+    /// changes.
     pub fn answer(&mut self, machine: &Machine, page: &mut Page)
         ensures at { (v : DiskImage) (asked : List ℕ) (k : ℕ) → IsAt machine.now v self.old asked k →
             IsAnswer v self.old.pending.call page.old → (IsEnd self.old.pending.call → ⊥) →
@@ -86,7 +88,7 @@ impl Resume {
         }
     }
 
-    /// Tells that the pending call failed: the resume ends. After the end nothing changes.
+    /// Records that the pending call failed: the resume ends. After the end nothing changes.
     pub fn fail(&mut self)
         ensures failed { (m : Machine) (made : List Call) → HasAsked m self.old made →
             (IsEnd self.old.pending.call → ⊥) →

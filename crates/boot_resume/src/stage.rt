@@ -1,18 +1,18 @@
 use crate::call::{Call, Left};
 
-/// What the answer to the pending call is for.
+/// The purpose of the answer to the pending call.
 #[derive(Clone, Copy, Debug, PartialEq, Eq)]
 pub enum Stage {
     /// Before anything is read.
     FirstSync,
     Header,
-    /// The header block is written taken back.
+    /// The header block is written with its mark taken back.
     TakeBack,
     SettleBack,
     /// A map, the info page or a number page is read for the first time.
     ListMap,
     ListPage,
-    /// The map of a number page, or the page, is read again.
+    /// The map of a number page, or the number page itself, is read again.
     NumberMap,
     NumberPage,
     /// A map or a data page is read.
@@ -23,7 +23,7 @@ pub enum Stage {
     Ended,
 }
 
-/// A call, and what its answer is for.
+/// A call, and the purpose of its answer.
 #[derive(Clone, Copy, Debug, PartialEq, Eq)]
 pub struct Move {
     pub stage: Stage,
@@ -34,7 +34,7 @@ impl Stage {
     ghost use Rattle.std.specs.Prelude.{◌≡◌};
     ghost use Rattle.boot_resume.specs.Asked.{left_at};
 
-    /// What a failure of the pending call leaves.
+    /// Returns what a failure of the pending call leaves.
     pub(crate) fn left(self) -> Left
         ensures { result ≡ left_at self }
     {

@@ -1,4 +1,4 @@
--- How many of the bytes that a sink took were flushed. A meaning that isn't told is `None`.
+-- How many of the bytes that a sink took were flushed. `None` stands for what a sink doesn't tell.
 use Rattle.std.specs.Prelude.{◌≡◌, ℕ, List, length, Option, Some, None, ⊤}
 
 -- all that was taken was flushed

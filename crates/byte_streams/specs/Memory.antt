@@ -8,14 +8,14 @@ use Rattle.byte_streams.specs.declared.memory.MemSink.{MemSink}
 abbrev pub left_of : MemSource → List ℕ
 left_of source = drop source.at source.bytes.items
 
--- the numbers of the calls that are to fail, and how many were made
+-- the numbers of the calls that must fail, and how many were made
 abbrev pub failing_of : MemSource → List ℕ
 failing_of source = source.calls.failing.items
 
 abbrev pub calls_of : MemSource → ℕ
 calls_of source = source.calls.made
 
--- the next call of the source is one that is to fail
+-- the next call of the source is one that must fail
 abbrev pub FailsNext : MemSource → Type 0
 FailsNext source = IsDue source.calls
 
@@ -39,7 +39,7 @@ sink_failing_of sink = sink.calls.failing.items
 abbrev pub sink_calls_of : MemSink → ℕ
 sink_calls_of sink = sink.calls.made
 
--- the next call of the sink is one that is to fail
+-- the next call of the sink is one that must fail
 abbrev pub RefusesNext : MemSink → Type 0
 RefusesNext sink = IsDue sink.calls
 

@@ -4,8 +4,8 @@ ghost use Rattle.byte_streams.specs.Calls.{IsDue};
 
 use page_core::Failed;
 
-/// The calls of a source or a sink in memory, counted from 0: those that are to fail, how many were made, and how often
-/// one failed. Both counts stay at 2^64-1.
+/// The calls of a source or a sink in memory, counted from 0: those that must fail, how many were made, and how often
+/// one failed. Both counts saturate at 2^64-1.
 #[derive(Drop)]
 pub(crate) struct Calls {
     failing: Vec<u64>,
@@ -28,7 +28,7 @@ impl Calls {
         }
     }
 
-    /// One more call. It fails where its number is listed.
+    /// Makes one more call. It fails if its number is listed.
     pub(crate) fn make(&mut self) -> Result<(), Failed>
         ensures fails { IsErr result ↔ IsDue self.old }
         ensures failing { self.new.failing ≡ self.old.failing }
@@ -44,7 +44,7 @@ impl Calls {
         Ok(())
     }
 
-    /// A call has failed.
+    /// Counts a call that has failed.
     pub(crate) fn fault(&mut self) -> Failed
         ensures failing { self.new.failing ≡ self.old.failing }
         ensures made { self.new.made ≡ self.old.made }

@@ -5,7 +5,7 @@ ghost use Rattle.definitions.specs.Streams.{HandsOut, IsUsedUp};
 use crate::source::Source;
 use page_core::Failed;
 
-/// Reads until a piece is full or the input ends, and answers how many bytes came.
+/// Reads until a piece is full or the input ends, and returns how many bytes were read.
 pub fn fill<S: Source>(source: &mut S, piece: &mut [u8]) -> Result<usize, Failed>
     ensures count { IfOk result (λ k. k ≤ length piece.old) }
     ensures bytes { IfOk result (λ k. HandsOut k piece.new (S.remaining source.old) (S.remaining source.new)) }

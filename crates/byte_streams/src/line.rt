@@ -44,7 +44,7 @@ impl Line {
         }
     }
 
-    /// Adds a number's digits, at most 20.
+    /// Adds the digits of a number, at most 20.
     pub fn put_number(&mut self, n: u64)
         requires { length self.old ≤ 172 }
         ensures added { self.new ≡ self.old ++ decimal n }

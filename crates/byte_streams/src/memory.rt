@@ -8,7 +8,7 @@ use crate::sink::Sink;
 use crate::source::Source;
 use page_core::Failed;
 
-/// A source in memory. Of its calls those fail, counted from 0, whose numbers are listed.
+/// A source in memory. The calls whose numbers, counted from 0, are listed fail.
 #[derive(Drop)]
 pub struct MemSource {
     bytes: Vec<u8>,
@@ -20,7 +20,7 @@ pub struct MemSource {
 impl MemSource {
     ghost use Rattle.byte_streams.specs.Memory.{left_of, calls_of, failing_of};
 
-    /// A source of these bytes.
+    /// Returns a source of these bytes.
     pub fn new(bytes: Vec<u8>, failing: Vec<u64>) -> MemSource
         ensures bytes { left_of result ≡ bytes.items }
         ensures failing { failing_of result ≡ failing.items }
@@ -60,8 +60,8 @@ impl Source for MemSource {
     }
 }
 
-/// A sink in memory, with the room of the vector that it was handed. Of its calls those fail, counted from 0, whose
-/// numbers are listed, and those that bring a byte where no room is left.
+/// A sink in memory, with the capacity of the vector that it was given. The calls whose numbers, counted from 0, are
+/// listed fail, and so do those that bring a byte when no room is left.
 #[derive(Drop)]
 pub struct MemSink {
     bytes: Vec<u8>,
@@ -75,7 +75,7 @@ pub struct MemSink {
 impl MemSink {
     ghost use Rattle.byte_streams.specs.Memory.{flushed_of, room_of, sink_calls_of, sink_failing_of, taken_by};
 
-    /// A sink that has taken and flushed the bytes of the vector, and has the room that is left in it.
+    /// Returns a sink that has taken and flushed the bytes of the vector, and has the room that is left in it.
     pub fn new(bytes: Vec<u8>, failing: Vec<u64>) -> MemSink
         ensures taken { taken_by result ≡ bytes.items }
         ensures flushed { flushed_of result ≡ vec_len bytes }
@@ -94,14 +94,14 @@ impl MemSink {
         }
     }
 
-    /// The bytes taken.
+    /// Returns the bytes taken.
     pub fn as_bytes(&self) -> &[u8]
         ensures { result.now ≡ taken_by self.now }
     {
         self.bytes.as_slice()
     }
 
-    /// How many of the bytes taken were flushed.
+    /// Returns how many of the bytes taken were flushed.
     pub fn flushed(&self) -> usize
         ensures { result ≡ flushed_of self.now }
     {

@@ -5,7 +5,7 @@ ghost use Rattle.definitions.specs.Streams.{TakesAll, TakesFront};
 use crate::sink::Sink;
 use page_core::Failed;
 
-/// Writes a text to its end.
+/// Writes a whole text.
 pub fn put_all<K: Sink>(sink: &mut K, text: &[u8]) -> Result<(), Failed>
     ensures whole { OnOk result (TakesAll text.now (K.taken sink.old) (K.taken sink.new)) }
     ensures front { TakesFront text.now (K.taken sink.old) (K.taken sink.new) }

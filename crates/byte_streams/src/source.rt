@@ -4,16 +4,16 @@ ghost use Rattle.definitions.specs.Streams.{HandsOut, IsUsedUp};
 
 use page_core::Failed;
 
-/// Where input comes from. It may tell which bytes are left.
+/// An origin of input. It may tell which bytes are left.
 pub trait Source {
-    /// The bytes left, where they are told.
+    /// The bytes left, if the source tells them.
     ghost remaining: { Self → Option (List ℕ) };
 
-    /// How often it has failed. It never falls, and stays at 2^64-1.
+    /// How often the source has failed. The count never falls, and saturates at 2^64-1.
     ghost faults: { Self → ℕ };
 
-    /// Reads some bytes into a piece, and answers how many. For a piece that isn't empty 0 is the end of input.
-    /// After a failure the bytes left are as before.
+    /// Reads some bytes into a piece, and returns how many. If the piece isn't empty, 0 means the end of input. After a
+    /// failure the bytes left are as before.
     fn read(&mut self, into: &mut [u8]) -> Result<usize, Failed>
         ensures count { IfOk result (λ k. k ≤ length into.old) }
         ensures bytes { IfOk result (λ k. HandsOut k into.new (remaining self.old) (remaining self.new)) }

@@ -6,8 +6,8 @@ use crate::source::Source;
 use page_core::Failed;
 use std::io::{self, ErrorKind, Read, Write};
 
-/// A reader of the system, such as standard input. Of its bytes nothing is told. A call that a signal interrupts is
-/// made again.
+/// A reader of the system, such as standard input. It doesn't tell its bytes. A call that a signal interrupts is made
+/// again.
 #[derive(Drop)]
 pub struct StdSource<R: Read + Drop> {
     reader: R,
@@ -15,7 +15,7 @@ pub struct StdSource<R: Read + Drop> {
 }
 
 impl<R: Read + Drop> StdSource<R> {
-    /// A source over a reader, without a fault so far.
+    /// Returns a source over a reader, without a fault so far.
     pub fn new(reader: R) -> StdSource<R>
         ensures { ⟦<StdSource<R> as Source>⟧.faults result ≡ 0 }
     {
@@ -39,7 +39,7 @@ impl<R: Read + Drop> Source for StdSource<R> {
     }
 }
 
-/// A writer of the system, such as standard output. Of the bytes that it takes nothing is told. A call that a signal
+/// A writer of the system, such as standard output. It doesn't tell the bytes that it takes. A call that a signal
 /// interrupts is made again.
 #[derive(Drop)]
 pub struct StdSink<W: Write + Drop> {
@@ -48,7 +48,7 @@ pub struct StdSink<W: Write + Drop> {
 }
 
 impl<W: Write + Drop> StdSink<W> {
-    /// A sink over a writer, without a fault so far.
+    /// Returns a sink over a writer, without a fault so far.
     pub fn new(writer: W) -> StdSink<W>
         ensures { ⟦<StdSink<W> as Sink>⟧.faults result ≡ 0 }
     {
@@ -73,7 +73,7 @@ impl<W: Write + Drop> Sink for StdSink<W> {
 
     ghost of_taken = { λ _. tt };
 
-    /// A write that takes nothing of a piece that isn't empty is a fault.
+    /// Writes to the system. A write that takes nothing of a piece that isn't empty is a fault.
     fn write(&mut self, from: &[u8]) -> Result<usize, Failed> {
         match write_again(&mut self.writer, from) {
             Ok(count) if count > 0 || from.is_empty() => Ok(count),
@@ -89,7 +89,7 @@ impl<W: Write + Drop> Sink for StdSink<W> {
     }
 }
 
-/// Reads, and does so again where a signal interrupts it.
+/// Reads, again if a signal interrupts the call.
 fn read_again<R: Read>(reader: &mut R, into: &mut [u8]) -> io::Result<usize>
     ensures { IfOk result (λ count. count ≤ length into.old) }
 {
@@ -102,7 +102,7 @@ fn read_again<R: Read>(reader: &mut R, into: &mut [u8]) -> io::Result<usize>
     Err(ErrorKind::Interrupted.into())
 }
 
-/// Writes, and does so again where a signal interrupts it.
+/// Writes, again if a signal interrupts the call.
 fn write_again<W: Write>(writer: &mut W, from: &[u8]) -> io::Result<usize>
     ensures { IfOk result (λ count. count ≤ length from.now) }
 {
@@ -115,7 +115,7 @@ fn write_again<W: Write>(writer: &mut W, from: &[u8]) -> io::Result<usize>
     Err(ErrorKind::Interrupted.into())
 }
 
-/// Flushes, and does so again where a signal interrupts it.
+/// Flushes, again if a signal interrupts the call.
 fn flush_again<W: Write>(writer: &mut W) -> io::Result<()> {
     for _ in 0..u64::MAX {
         match writer.flush() {

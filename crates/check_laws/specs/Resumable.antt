@@ -1,4 +1,4 @@
--- When a resume of an image in which nothing is found comes to its end.
+-- When a resume of an image without findings comes to its end.
 use Rattle.std.specs.Prelude.{◌≡◌, ◌≤◌, ◌<◌, ◌⊎◌, ℕ, ◌+◌, ◌*◌, true, List, [], ◌∷◌, ◌++◌, length, map}
 use Rattle.std.specs.Prelude.{Some, None, ⊤}
 use Rattle.std.specs.List.{range_with_len}
@@ -19,11 +19,11 @@ use Rattle.image_walk.specs.declared.limits.Limits.{Limits}
 use Rattle.image_check.specs.Checked.{Finds}
 use Rattle.image_check.specs.Header.{limits_of}
 
--- a block that an image may name at first: one of the file and of the area, and neither a bad page nor the header's
+-- a block that an image may name first: one of the file and of the area, and neither a bad page nor the header's
 abbrev pub MayName : Limits → ℕ → Type 0
 MayName l b = fault_of l [] b ≡ None
 
--- which blocks an image may name whose area's header lies in a block of a disk
+-- the blocks that an image may name if its area has the given header block
 abbrev pub limits_in : DiskImage → ℕ → Limits
 limits_in v header = limits_of (blocks_of v) header (area_kind (taken_back (block v header)))
 
@@ -40,14 +40,14 @@ pub record IsSlotBlock (h : Hardware) (page : List ℕ) (b : ℕ) : Type 0 where
   pub to : slot ≤ last_page_of page
   pub lies : block_of_slot h slot ≡ b
 
--- what the image of the area whose header lies in a block names, and may name, are blocks of the machine's slots
+-- the blocks that the image of the area with this header block names, and may name, are blocks of the machine's slots
 abbrev pub NamesSlots : Hardware → DiskImage → ℕ → Type 0
 NamesSlots h v header =
     (b : ℕ) → IsNamed h v b → MayName (limits_in v header) b → IsSlotBlock h (block v header) b
 
--- A loader of the image whose area's header lies in a block of the disk v: a machine with this memory. Slot 0 lies in
--- that block, and what the image names and may name are blocks of other slots. The machine has the image's hardware
--- signature, where the image has one (SF_HW_SIG, which is 8), as many page frames as the image says, each of those that
+-- A loader of the image of the area with the given header block on the disk v: a machine with this memory. Slot 0 lies
+-- on that block, and what the image names and may name are blocks of other slots. The machine has the image's hardware
+-- signature, if the image has one (SF_HW_SIG, which is 8), as many page frames as the image says, each of those that
 -- were saved, and as many free ones as a resume needs.
 pub record IsLoaderOf (v : DiskImage) (header : ℕ) (h : Hardware) (m : Memory) : Type 0 where
   pub hardware : IsHardware h
@@ -58,20 +58,20 @@ pub record IsLoaderOf (v : DiskImage) (header : ℕ) (h : Hardware) (m : Memory)
   pub valid : (j : ℕ) → j < (info_in h v).image_pages → is_valid h (number_in h v j) ≡ true
   pub room : need (d_in h v) ≤ length (left_free h m loader.Table)
 
--- the image's identity is the loader's, where it is compared
+-- the image's identity is the loader's, if it is compared
 abbrev pub IsIdentified : Hardware → DiskImage → IdentCheck → Type 0
 IsIdentified h v Compare = mismatch (info_in h v).ident h.ident ≡ None
 IsIdentified h v Skip = ⊤
 
 -- The trace of a resume comes to its end: each step but the last answers Loading, and the last one Resumed, with the
--- number of saved page frames. There are four steps, and one for each map and each page of the image.
+-- number of saved page frames. There are four steps, and one more for each map and each page of the image.
 abbrev pub IsResumed : Hardware → Memory → DiskImage → IdentCheck → Type 0
 IsResumed h m v check =
     trace h m v loader.Table check
     ≡ map reply.Loading (range_with_len 1 (3 + place_count (info_in h v).pages))
     ++ reply.Resumed (info_in h v).image_pages ∷ []
 
--- An image in which nothing is found, on a disk of so many blocks, is resumed by each loader of it.
+-- An image without findings, on a disk with the given number of blocks, is resumed by each loader of it.
 abbrev pub WholeIsResumed : Type 0
 WholeIsResumed =
     (blocks header before now : ℕ) (held : Content) (h : Hardware) (m : Memory) (check : IdentCheck) →
@@ -79,11 +79,11 @@ WholeIsResumed =
     IsLoaderOf (as_it_reads held) header h m → IsIdentified h (as_it_reads held) check →
     IsResumed h m (as_it_reads held) check
 
--- The area lies from block 0 on in one piece: slot s is block s.
+-- The area lies in one piece, from block 0 on: slot s is block s.
 abbrev pub IsOnePiece : Hardware → Type 0
 IsOnePiece h = h.extents ≡ (0, h.slots, 0) ∷ []
 
--- There slot 0 lies on the header's block, and an image in which nothing is found names blocks of later slots alone.
+-- Then slot 0 lies on the header's block, and an image without findings names only blocks of later slots.
 abbrev pub OnePieceNamesSlots : Type 0
 OnePieceNamesSlots =
     (blocks before now : ℕ) (held : Content) (h : Hardware) → IsContent blocks held → IsOnePiece h →

@@ -1,2 +1,2 @@
-//! Laws that tie what is found of an image to what a resume of it answers, as lemmas.
+//! Laws that tie the findings of an image to what a resume of it answers, as lemmas.
 #![tactic(auto)]

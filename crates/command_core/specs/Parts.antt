@@ -8,7 +8,7 @@ use Rattle.world_runs.specs.Played.{Played}
 use Rattle.command_core.specs.Runs.{AreStepped, FailsToBoot, GoOn, HasNewFault, IsReady, core_steps, last_reply}
 use Rattle.command_core.specs.declared.ending.Ended.{Ended}
 
--- a boot, then a boot with what is dropped, and the steps of an operation
+-- a boot, a boot with the drop of cached page frames, and the steps of an operation
 abbrev pub Boots : {X : Type 0} → Ghosts X → World → World → Result (Unit {0}) Ended → X → X → Type 0
 Boots D old new (Ok done) before after =
     (events : List Event) × (replies : List Reply) × IsReady None events replies

@@ -1,5 +1,5 @@
--- The runs of the commands: which events a hibernation and a resume of a dump's machine give it, and what they did over
--- the disk.
+-- The runs of the commands: the events that a hibernation and a resume give a dump's machine, and what they do over the
+-- disk.
 use Rattle.std.specs.Prelude.{◌≡◌, ◌≤◌, ◌⊎◌, ◌↔◌, ◌+◌, ℕ, true, false, List, [], ◌∷◌, ◌++◌, length, map, Option, Some}
 use Rattle.std.specs.Prelude.{None, IsTrue, ⊤, Bool, if◌then◌else◌}
 use Rattle.page_core.specs.declared.format.Format.{Format}
@@ -39,11 +39,11 @@ abbrev pub is_booted : Reply → Bool
 is_booted (reply.Booted image) = true
 is_booted _ = false
 
--- the steps that gave these replies
+-- the step events that these replies answered
 abbrev pub core_steps : List Reply → List Event
 core_steps replies = map (λ r. event.Step actor.Core) replies
 
--- the last reply, and that each before it has a step left after it
+-- the last reply; and whether each reply before it has a step left after it
 abbrev pub last_reply : Reply → List Reply → Reply
 last_reply r [] = r
 last_reply r (s ∷ rest) = last_reply s rest
@@ -52,20 +52,20 @@ abbrev pub GoOn : Reply → List Reply → Type 0
 GoOn r [] = ⊤
 GoOn r (s ∷ rest) = (goes_on r ≡ true) × GoOn s rest
 
--- one of the replies tells of a call of the disk that failed at its event
+-- one of the replies reports a failed call of the disk at its event
 abbrev pub HasNewFault : List Reply → Type 0
 HasNewFault [] = ⊥
 HasNewFault (r ∷ rest) = TellsNewFault r ⊎ HasNewFault rest
 
--- An operation that begins with the first reply, and step after step up to one after which none is left; whether a call
--- of the disk has failed is what the replies tell.
+-- An operation that begins with the first reply, and goes on step by step until no step is left. The replies say
+-- whether a call of the disk has failed.
 pub record AreStepped (begun : Reply) (rest : List Reply) (ended : Ended) : Type 0 where
   pub last_is : last_reply begun rest ≡ ended.reply
   pub goes : GoOn begun rest
   pub over : goes_on ended.reply ≡ false
   pub failed : (ended.failed ≡ true) ↔ HasNewFault rest
 
--- A resume is asked for with the dump's memory as the loader, and steps follow.
+-- A resume is asked for, with the dump's memory as the loader, and its steps follow.
 pub record IsResumption (check : IdentCheck) (ended : Ended) (events : List Event) (replies : List Reply) : Type 0 where
   pub begun : Reply
   pub rest : List Reply
@@ -77,12 +77,12 @@ pub record IsResumption (check : IdentCheck) (ended : Ended) (events : List Even
 abbrev pub boot_events : List Event
 boot_events = event.Boot Kept ∷ event.Step actor.Core ∷ event.Step actor.Core ∷ []
 
--- cached page frames are dropped where a size is asked for
+-- cached page frames are dropped if a size is asked for
 abbrev pub shrink_events : Option ℕ → List Event
 shrink_events None = []
 shrink_events (Some want) = event.Shrink want ∷ []
 
--- A boot ends early where a call of the disk fails: its sync, or its read.
+-- A boot ends early if a call of the disk fails: its sync, or its read.
 pub record IsUnsynced (ended : Ended) (events : List Event) (replies : List Reply) : Type 0 where
   pub begun : Reply
   pub stops : goes_on ended.reply ≡ false
@@ -99,7 +99,7 @@ pub record IsUnbooted (ended : Ended) (events : List Event) (replies : List Repl
   pub events_are : events ≡ boot_events
   pub replies_are : replies ≡ begun ∷ synced ∷ ended.reply ∷ []
 
--- the machine runs, and what was to be dropped is dropped
+-- the machine runs, and cached page frames were dropped if a size was asked for
 pub record IsReady (size : Option ℕ) (events : List Event) (replies : List Reply) : Type 0 where
   pub begun : Reply
   pub synced : Reply
@@ -111,7 +111,7 @@ pub record IsReady (size : Option ℕ) (events : List Event) (replies : List Rep
   pub events_are : events ≡ boot_events ++ shrink_events size
   pub replies_are : replies ≡ (begun ∷ synced ∷ booted ∷ []) ++ shrunk
 
--- Then a hibernation is asked for, and steps follow.
+-- Then a hibernation is asked for, and its steps follow.
 pub record IsAsked (f : Format) (size : Option ℕ) (ended : Ended) (events : List Event)
     (replies : List Reply) : Type 0 where
   pub front : List Event
@@ -129,10 +129,10 @@ FailsToBoot ended events replies = IsUnsynced ended events replies ⊎ IsUnboote
 abbrev pub IsHibernation : Format → Option ℕ → Ended → List Event → List Reply → Type 0
 IsHibernation f size ended events replies = FailsToBoot ended events replies ⊎ IsAsked f size ended events replies
 
--- Over the disk v, which has one image: the machine is off, with the dump's memory, and another's image where the disk
--- is marked. The events lead from there, by rows of the plain machine, to what is shown of the world and what the disk
--- holds at the end. A crash since the begin leaves the disk as it was, or what lies, sector by sector, between two
--- neighbours on the way.
+-- Over the disk v, which has one image: at first the machine is off, with the dump's memory, and another's image if the
+-- disk is marked. The events lead from there, by rows of the plain machine, to what is shown of the world and what the
+-- disk holds at the end. A crash since the start leaves the disk as it was, or is inside one of the events and
+-- leaves each sector as it was before that event or after it.
 pub record RunsOver {X : Type 0} (D : Ghosts X) (h : Hardware) (m : Memory) (v : disk.DiskImage) (events : List Event)
     (replies : List Reply) (shown : WorldView) (before after : X) : Type 0 where
   pub first : Situation
@@ -148,8 +148,8 @@ pub record RunsOver {X : Type 0} (D : Ghosts X) (h : Hardware) (m : Memory) (v :
   pub inside : IsTrue (D.tells_moments before) → (w : disk.DiskImage) → D.left_since after (D.moment before) w →
       (w ≡ v) ⊎ IsLeftInside first through w
 
--- What a command's machine did: the disk was called at most once a step event, its count of faults allows for the
--- replies, and over a disk that tells what it holds the events are a run.
+-- What a command's machine did: the disk was called at most once for each step event, its count of faults allows for
+-- the replies, and over a disk that tells its content the events are a run.
 pub record Ran {X : Type 0} (D : Ghosts X) (h : Hardware) (m : Memory) (events : List Event) (replies : List Reply)
     (shown : WorldView) (before after : X) : Type 0 where
   pub calls : D.calls after ≤ D.calls before + steps_of events
@@ -157,7 +157,7 @@ pub record Ran {X : Type 0} (D : Ghosts X) (h : Hardware) (m : Memory) (events :
   pub over : (v : disk.DiskImage) → D.content before ≡ Some (disk.settled v) → (Marked h v → HasOriginal h v) →
       RunsOver D h m v events replies shown before after
 
--- a hibernation, or a resume, that ended so
+-- the run of a hibernation, or of a resume, that ended this way
 abbrev pub RanAs : {X : Type 0} → (List Event → List Reply → Type 0) → Ghosts X → Hardware → Memory → WorldView → X →
     X → Type 0
 RanAs IsThis D h m shown before after =

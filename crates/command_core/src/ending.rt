@@ -20,7 +20,7 @@ pub struct Ended {
 }
 
 impl Ended {
-    /// The operation has ended with the reply of the only event that could fail.
+    /// Returns the ending of an operation by the reply of the only event that could fail.
     pub(crate) fn after(reply: Reply) -> Ended
         ensures reply { result.reply ≡ reply }
         ensures failed { IsTrue result.failed ↔ TellsNewFault reply }
@@ -32,8 +32,8 @@ impl Ended {
     }
 }
 
-/// Makes the steps of the operation that this reply began, up to a reply after which none is left. Each leaves fewer
-/// steps, so there is such a reply over any disk.
+/// Makes the steps of the operation that this reply began, until a reply after which none is left. Each step leaves
+/// fewer steps, so such a reply comes over any disk.
 pub(crate) fn finish<D: Disk>(world: &mut World, disk: &mut D, begun: Reply) -> Ended
     requires blocks { IsOff world.old ⊎ (D.block_count disk.old ≡ blocks_of world.old) }
     ensures ran { Finishes D.Disk world.old world.new begun result disk.old disk.new }
@@ -52,7 +52,7 @@ pub(crate) fn finish<D: Disk>(world: &mut World, disk: &mut D, begun: Reply) -> 
     Ended { reply, failed }
 }
 
-/// Whether an operation has a step left after this reply.
+/// Returns whether an operation has a step left after this reply.
 pub(crate) fn goes_on(reply: &Reply) -> bool
     ensures { result ≡ goes_on reply.now }
 {
@@ -62,7 +62,7 @@ pub(crate) fn goes_on(reply: &Reply) -> bool
     )
 }
 
-/// Whether a reply says that the call of the disk at its event has failed.
+/// Returns whether a reply says that the call of the disk at its event has failed.
 pub(crate) fn is_new_fault(reply: &Reply) -> bool
     ensures { IsTrue result ↔ TellsNewFault reply.now }
 {

@@ -10,8 +10,8 @@ use plain_machine::{Actor, BootFrom, Event, Reply};
 use sector_disk::Disk;
 use world_core::World;
 
-/// Boots a new machine with the memory of its dump, drops cached page frames until so many saveable ones are left,
-/// where a size is asked for, and lets it hibernate (hibernate, kernel/power/hibernate.c). What it answers last.
+/// Boots a new machine with the memory of its dump, drops cached page frames until `size` saveable ones are left, if a
+/// size is asked for, and lets it hibernate (hibernate, kernel/power/hibernate.c). Returns the last reply.
 pub fn hibernate<D: Disk>(
     world: &mut World,
     disk: &mut D,
@@ -34,8 +34,8 @@ pub fn hibernate<D: Disk>(
     finish(world, disk, begun)
 }
 
-/// Boots the machine, and drops cached page frames where a size is asked for; or tells the call of the disk that
-/// failed.
+/// Boots the machine, and drops cached page frames if a size is asked for. Fails with the reply to a failed call of the
+/// disk.
 fn start<D: Disk>(world: &mut World, disk: &mut D, size: Option<u64>) -> Result<(), Ended>
     requires new { IsNewWorld (hardware_of world.old) (Some world.old.frames) world.old }
     ensures ran { Starts D.Disk size world.old world.new result disk.old disk.new }
@@ -55,7 +55,7 @@ fn start<D: Disk>(world: &mut World, disk: &mut D, size: Option<u64>) -> Result<
     Ok(())
 }
 
-/// Boots the machine, or tells the call of the disk that failed.
+/// Boots the machine. Fails with the reply to a failed call of the disk.
 fn boot<D: Disk>(world: &mut World, disk: &mut D) -> Result<(), Ended>
     requires new { IsNewWorld (hardware_of world.old) (Some world.old.frames) world.old }
     ensures ran { Boots D.Disk world.old world.new result disk.old disk.new }

@@ -8,8 +8,8 @@ use plain_machine::{Event, IdentCheck, Loader};
 use sector_disk::Disk;
 use world_core::World;
 
-/// Resumes the image on a disk into a new machine, whose dump's memory is the loader's (software_resume,
-/// kernel/power/hibernate.c). What it answers last; where that is `Resumed`, its page frames are those of the machine
+/// Resumes the image on a disk into a new machine, with the dump's memory as the loader's (software_resume,
+/// kernel/power/hibernate.c). Returns the last reply; if that is `Resumed`, the page frames are those of the machine
 /// that was saved.
 pub fn resume<D: Disk>(world: &mut World, disk: &mut D, check: IdentCheck) -> Ended
     requires new { IsNewWorld (hardware_of world.old) (Some world.old.frames) world.old }

@@ -1,4 +1,4 @@
--- An answer as it is told.
+-- The result that an answer stands for.
 use Rattle.command_kit.specs.Told.{RunResult}
 use Rattle.command_kit.specs.declared.answer.Answer.{Answer}
 

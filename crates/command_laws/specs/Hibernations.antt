@@ -1,5 +1,5 @@
--- A whole hibernation of the machine that a dump tells: which machine hibernates, what it answers, and what it leaves.
--- In Linux: hibernate, kernel/power/hibernate.c.
+-- A whole hibernation of a dump's machine: which machine hibernates, its last reply, and what it leaves. In Linux:
+-- hibernate, kernel/power/hibernate.c.
 use Rattle.std.specs.Prelude.{◌≡◌, ◌⊎◌, ℕ, true, false, ◌∷◌, Option, Some, None, ⊤, unwrap_or, Contains}
 use Rattle.page_core.specs.declared.format.Format.{Format}
 use Rattle.definitions.specs.Disk as disk
@@ -18,7 +18,7 @@ use Rattle.protocol_laws.specs.Rows.{LeavesBlock}
 use Rattle.command_core.specs.Runs.{goes_on, held_at_first}
 use Rattle.command_core.specs.declared.ending.Ended.{Ended}
 
--- a reply of a call of the disk that failed, at its event or before an undo
+-- a reply to a call of the disk that failed, at its event or before an undo
 abbrev pub EndsInFault : Reply → Type 0
 EndsInFault (reply.ReadFault left) = ⊤
 EndsInFault (reply.WriteFault left) = ⊤
@@ -29,8 +29,8 @@ EndsInFault _ = ⊥
 abbrev pub machine_of_dump : Hardware → Memory → disk.DiskImage → Running
 machine_of_dump h m v = booted h v Kept m (held_at_first h v)
 
--- a running machine whose cached page frames are dropped until so many saveable ones are left, where a size is asked
--- for
+-- a running machine after its cached page frames were dropped until the wanted number of saveable ones were left, if a
+-- size is asked for
 abbrev pub shrunk_to : Hardware → Option ℕ → Running → Running
 shrunk_to h None a = a
 shrunk_to h (Some want) a = record a { memory = drop_memory h a.memory want }
@@ -43,17 +43,17 @@ machine_to_save h m size v = shrunk_to h size (machine_of_dump h m v)
 abbrev pub image_to_save : Hardware → Running → Format → Image
 image_to_save h a f = image_of_memory h a.memory a.slots f
 
--- what it answers at the end, where no call of the disk fails: why it is refused, or how many page frames are saved
+-- the last reply if no call of the disk fails: why the hibernation is refused, or how many page frames are saved
 abbrev pub hibernation_answer : Hardware → Running → Format → Reply
 hibernation_answer h a f =
     unwrap_or (refusal h (on a) (event.Hibernate f)) (reply.Hibernated (n_of (image_to_save h a f)))
 
--- A whole hibernation of the machine that a dump tells: it boots with that memory, drops cached page frames where a
--- size is asked for, and hibernates.
+-- A whole hibernation of a dump's machine: it boots with that memory, drops cached page frames if a size is asked for,
+-- and hibernates.
 
--- What the machine a answers at the end over the disk v, unless a call of the disk has failed. Where that is Hibernated
+-- The last reply of the machine a over the disk v, unless a call of the disk has failed. If the reply is Hibernated,
 -- each image of the disk holds the machine's own image. No other block is written than block(0) and those of the
--- image's slots, and none where it is refused.
+-- image's slots, and none if the hibernation is refused.
 pub record HasHibernated (h : Hardware) (a : Running) (f : Format) (v : disk.DiskImage) (ended : Ended)
     (now : Option disk.Content) : Type 0 where
   pub content : disk.Content
@@ -68,6 +68,6 @@ pub record HasHibernated (h : Hardware) (a : Running) (f : Format) (v : disk.Dis
   pub refused : (r : Reply) → refusal h (on a) (event.Hibernate f) ≡ Some r → (b : ℕ) →
       LeavesBlock b (disk.settled v) content
 
--- An image that isn't marked, or holds this one.
+-- A disk that isn't marked, or holds this image.
 abbrev pub IsUnmarkedOrHolds : Hardware → Image → disk.DiskImage → Type 0
 IsUnmarkedOrHolds h i w = (Marked h w → ⊥) ⊎ Holds h w i

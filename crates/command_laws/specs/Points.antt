@@ -1,5 +1,5 @@
--- Events of a command, one after another, by what the plain machine and the disk are at between them, and whether a
--- call of the disk has failed so far.
+-- Events of a command, one after another: the state of the plain machine and the content of the disk between them, and
+-- whether a call of the disk has failed so far.
 use Rattle.std.specs.Prelude.{◌≡◌, ◌⊎◌, ℕ, zero, suc, Bool, true, false, Contains}
 use Rattle.definitions.specs.Disk as disk
 use Rattle.plain_machine.specs.Machine.{Hardware, Memory}
@@ -26,13 +26,13 @@ pub record Point : Type 0 where
   pub content : disk.Content
   pub frames : Memory
 
--- something stands for the state over that disk
+-- what is shown of some world stands for the state over that disk
 abbrev pub StandsAt : Hardware → Point → Type 0
 StandsAt h p = (shown : WorldView) × Stands h shown p.content p.state
 
 -- The plain machine gives the reply to this event, and goes on to the state, for which the disk stands. The area on the
--- disk stays, no other block is written than it may write, and block(0) is left so. A call that failed is noticed, and
--- none else. Where a resume has ended the page frames are those that it restores.
+-- disk stays, no block is written but those that the event may write, and block(0) is as LeavesHeader says. A call that
+-- failed is noticed, and no other. After a resume that has ended, the page frames are those that it restores.
 pub record IsTurn (h : Hardware) (e : Event) (old new : Point) : Type 0 where
   pub step : Step h (disk.as_it_reads old.content) old.state e new.reply new.state
   pub area : IsSameArea h (disk.as_it_reads old.content) (disk.as_it_reads new.content)
@@ -47,13 +47,14 @@ pub record IsTurn (h : Hardware) (e : Event) (old new : Point) : Type 0 where
   pub restored : (load : Load) (k n : ℕ) → e ≡ event.Step actor.Core → old.state ≡ loading load k →
       new.reply ≡ reply.Resumed n → new.frames ≡ restored_by h load
 
--- so many steps of the core, each after a reply that goes on
+-- the given number of steps of the core, each after a reply that goes on
 abbrev pub AreSteps : Hardware → ℕ → Point → Point → Type 0
 AreSteps h zero old new = new ≡ old
 AreSteps h (suc n) old new =
     (mid : Point) × AreSteps h n old mid × (goes_on mid.reply ≡ true) × IsTurn h (event.Step actor.Core) mid new
 
--- A crash inside a step from this point on may leave this image: it has each sector from before the step or after it.
+-- A crash inside a step from this point on may leave this image: each of its sectors is from before the step or after
+-- it.
 pub record IsLeftInside (h : Hardware) (start : Point) (w : disk.DiskImage) : Type 0 where
   pub steps : ℕ
   pub before : Point
@@ -63,8 +64,8 @@ pub record IsLeftInside (h : Hardware) (start : Point) (w : disk.DiskImage) : Ty
   pub turn : IsTurn h (event.Step actor.Core) before after
   pub mixed : disk.IsMixture before.content after.content w
 
--- So many steps from this point on have led to the end, which is shown so, over what the disk then holds. Nothing is
--- left to do there.
+-- The steps from this point on have led to the end, at which `shown` is shown and the disk holds `now`. No step is left
+-- to make.
 pub record HasGone (h : Hardware) (start : Point) (ended : Ended) (shown : WorldView)
     (now : disk.Content) : Type 0 where
   pub steps : ℕ

@@ -1,5 +1,5 @@
--- A whole resume into the memory of a loader's dump: what the machine answers, and what it leaves.
--- In Linux: software_resume, kernel/power/hibernate.c.
+-- A whole resume into the memory of a loader's dump: the machine's last reply, and what it leaves. In Linux:
+-- software_resume, kernel/power/hibernate.c.
 use Rattle.std.specs.Prelude.{◌≡◌, ◌≢◌, ◌⊎◌, ℕ, true, false, List, [], ◌∷◌, ◌++◌, Option, Some, ⊤}
 use Rattle.definitions.specs.Disk as disk
 use Rattle.plain_machine.specs.Chain.{Marked}
@@ -20,8 +20,8 @@ use Rattle.command_laws.specs.Hibernations.{EndsInFault}
 abbrev pub IsLast : List Reply → Reply → Type 0
 IsLast replies r = (front : List Reply) × (replies ≡ front ++ r ∷ [])
 
--- The replies after which an image that was there may still be: it is compressed, or a call failed before one of the
--- disk made certain that it is gone.
+-- The replies after which an image that existed may still exist: it is compressed, or a call of the disk failed before
+-- it was certain that the image is gone.
 abbrev pub MayLeaveMark : Reply → Type 0
 MayLeaveMark (reply.Compressed flags) = ⊤
 MayLeaveMark (reply.ReadFault Gone) = ⊥
@@ -29,10 +29,10 @@ MayLeaveMark (reply.WriteFault Gone) = ⊥
 MayLeaveMark (reply.SyncFault Gone) = ⊥
 MayLeaveMark r = EndsInFault r
 
--- What the machine answers at the end over the disk v: the last reply of its trace, unless a call of the disk has
--- failed. Where that is Resumed, the page frames are those that are restored. Then, after each refusal but that of a
--- compressed image, and after a fault that says that the image is gone, no image of the disk is marked. Of the disk
--- block(0) alone may be written, and none where no image was found or it is compressed.
+-- The last reply of the machine over the disk v: the last one of its trace, unless a call of the disk has failed. If it
+-- is Resumed, the page frames are those that are restored. In that case, after each refusal except that of a compressed
+-- image, and after a fault that says that the image is gone, no image of the disk is marked. Only block(0) may be
+-- written, and nothing if no image was found or it is compressed.
 pub record HasResumed (h : Hardware) (m : Memory) (check : IdentCheck) (v : disk.DiskImage) (frames : Memory)
     (ended : Ended) (now : Option disk.Content) : Type 0 where
   pub content : disk.Content

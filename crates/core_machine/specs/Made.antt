@@ -29,7 +29,7 @@ saved_of bytes segments = filter holds_bytes (pages_of bytes segments)
 abbrev pub saved_in : List ℕ → List (ℕ × List ℕ)
 saved_in bytes = saved_of bytes (segments_in bytes)
 
--- the page frame after the last one of segments, of which the first ones end at a page frame
+-- the page frame after the last one of segments, or `frame` if there are no segments
 abbrev pub end_after : ℕ → List Segment → ℕ
 end_after frame [] = frame
 end_after frame (s ∷ segments) = end_after (frame_end s) segments
@@ -37,11 +37,11 @@ end_after frame (s ∷ segments) = end_after (frame_end s) segments
 abbrev pub frames_in : List Segment → ℕ
 frames_in segments = end_after 0 segments
 
--- As many slots as are wanted, or else as many as page frames, and at least two.
+-- The given number of slots, or else as many as page frames, but at least two.
 abbrev pub slots_for : Option ℕ → ℕ → ℕ
 slots_for slots frames = max 2 (unwrap_or slots frames)
 
--- an area of so many slots without bad pages
+-- an area with the given number of slots and no bad pages
 abbrev pub area_of : ℕ → Area
 area_of slots = record { last = slots - 1; count = 0; bad = replicate 630 0 }
 
@@ -58,7 +58,7 @@ pub record IsPlain (layout : Layout) : Type 0 where
   pub extents : layout.extents.now ≡ []
   pub offset : layout.offset ≡ 0
 
--- The dump is that of a machine in which just the page frames with bytes other than zero are in use, apart from its
+-- The dump is that of a machine in which exactly the page frames with bytes other than zero are in use, apart from its
 -- tables, each with its page.
 pub record IsOfCore (bytes : List ℕ) (slots : Option ℕ) (dump : Dump) : Type 0 where
   pub no_fault : core_fault bytes ≡ None
@@ -66,14 +66,14 @@ pub record IsOfCore (bytes : List ℕ) (slots : Option ℕ) (dump : Dump) : Type
   pub plain : IsPlain layout
   pub machine : IsMachineFor (heading_in bytes slots) layout None (saved_in bytes) dump.hw dump.frames
 
--- No machine has this memory, since a limit is passed: whatever its pages are, or by those of the whole file.
+-- No machine has this memory, because a limit is violated: whatever its pages are, or by the pages of the whole file.
 pub data HasLimit (bytes : List ℕ) (slots : Option ℕ) (limit : Limit) : Type 0 where
   at_once : (layout : Layout) → IsPlain layout → head_fault bytes ≡ None →
       PassesAtOnce (heading_in bytes slots) layout limit → HasLimit bytes slots limit
   at_last : (layout : Layout) → IsPlain layout → core_fault bytes ≡ None →
       PassesWith (heading_in bytes slots) layout None (saved_in bytes) limit → HasLimit bytes slots limit
 
--- A fault is the first one of the file. That the source failed or memory was refused says nothing of it.
+-- A fault is the first one of the file. A failed source or refused memory says nothing about the file.
 abbrev pub LacksMachine : List ℕ → Option ℕ → Stop → Type 0
 LacksMachine bytes slots (stop.Core fault) = core_fault bytes ≡ Some fault
 LacksMachine bytes slots (stop.Limit limit) = HasLimit bytes slots limit

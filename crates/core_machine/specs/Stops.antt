@@ -1,4 +1,4 @@
--- Why there is no dump, by what stops its parts.
+-- Why there is no dump, by what stopped its parts.
 use Rattle.std.specs.Prelude.{◌≡◌, ⊤, Option, Some}
 use Rattle.core_segments.specs.declared.fault.Fault.{Fault}
 use Rattle.core_segments.specs.declared.fault.Stop.{Stop as CoreStop}
@@ -17,7 +17,7 @@ abbrev pub machine_stop : MachineStop → Stop
 machine_stop (machine.Limit limit) = stop.Limit limit
 machine_stop machine.Memory = stop.Memory
 
--- A fault is the first one of the bytes, and no limit is passed.
+-- A fault is the first one of the bytes, and no limit is violated.
 abbrev pub StopsIn : Option Fault → Stop → Type 0
 StopsIn first (stop.Core fault) = first ≡ Some fault
 StopsIn first (stop.Limit limit) = ⊥

@@ -7,13 +7,13 @@ use definitions::Ident;
 use image_machine::{Heading, Layout};
 use sig_header::Area;
 
-/// At most this many bad pages are in a header.
+/// The most bad pages that a header has.
 const MOST_BADPAGES: usize = 630;
 
-/// A machine has at least this many slots.
+/// The fewest slots that a machine has.
 const LEAST_SLOTS: u32 = 2;
 
-/// What is known of a machine with so many page frames, and so many slots or as many as page frames.
+/// Returns the heading of a machine with `frames` page frames, and `slots` slots or as many as page frames.
 pub(crate) fn heading_of(ident: Ident, frames: u32, slots: Option<u32>) -> Heading
     ensures { result ≡ heading_of ident frames slots }
 {
@@ -30,7 +30,7 @@ pub(crate) fn heading_of(ident: Ident, frames: u32, slots: Option<u32>) -> Headi
     }
 }
 
-/// The page frame after the last one of ascending segments.
+/// Returns the page frame after the last one of ascending segments.
 pub(crate) fn frames_in(segments: &[Segment]) -> u32
     requires { All (λ s. address_end s ≤ 2 ^ 28) segments.now }
     ensures { result ≡ frames_in segments.now }
@@ -42,7 +42,7 @@ pub(crate) fn frames_in(segments: &[Segment]) -> u32
     frames
 }
 
-/// One zone from page frame 0 on, and one extent from block 0 on, which has the header.
+/// Returns the layout of one zone from page frame 0 on, and one extent from block 0 on, which has the header.
 pub(crate) fn plain_layout() -> Layout<'static>
     ensures { IsPlain result }
 {

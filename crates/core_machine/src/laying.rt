@@ -20,7 +20,7 @@ use core_segments::{Segment, read_page};
 use image_machine::FilledPlan;
 use page_core::Page;
 
-/// Reads the pages of segments whose bytes lie from a place on, and gives those that aren't all zero to a plan that has
+/// Reads the pages of segments whose bytes lie from a place on, and adds those that aren't all zero to a plan that has
 /// none.
 pub(crate) fn lay_all<S: Source>(
     source: &mut S,
@@ -48,8 +48,8 @@ pub(crate) fn lay_all<S: Source>(
     Ok(())
 }
 
-/// Reads the pages of a segment, and gives those that aren't all zero to a plan. Answers up to where the file is read
-/// then.
+/// Reads the pages of a segment, and adds those that aren't all zero to a plan. Returns the place up to which the file
+/// was then read.
 fn lay_segment<S: Source>(
     source: &mut S,
     place: u64,
@@ -84,7 +84,7 @@ fn lay_segment<S: Source>(
     Ok(place)
 }
 
-/// Gives a page to a plan, unless it is all zero.
+/// Adds a page to a plan, unless it is all zero.
 fn lay_page(frame: u32, page: &Page, filled: &mut FilledPlan<'_>)
     requires filled { (saved : List (ℕ × List ℕ)) × IsFilled filled.old saved }
     requires valid { Contains (numbers filled.old.plan.zones) frame }
@@ -98,7 +98,7 @@ fn lay_page(frame: u32, page: &Page, filled: &mut FilledPlan<'_>)
     add_page(frame, page, filled);
 }
 
-/// Gives a page to a plan that has a place for it.
+/// Adds a page to a plan that has a place for it.
 fn add_page(frame: u32, page: &Page, filled: &mut FilledPlan<'_>)
     requires filled { (saved : List (ℕ × List ℕ)) × IsFilled filled.old saved }
     requires valid { Contains (numbers filled.old.plan.zones) frame }
@@ -112,7 +112,7 @@ fn add_page(frame: u32, page: &Page, filled: &mut FilledPlan<'_>)
     }
 }
 
-/// Whether each byte of a page is zero.
+/// Returns whether each byte of a page is zero.
 fn is_zeros(page: &Page) -> bool
     ensures { result ≡ is_zeros page.now }
 {

@@ -1,4 +1,4 @@
-//! The machine of a core file: a dump of a machine with the memory that the file tells.
+//! The machine of a core file: a dump of a machine with the memory that the file contains.
 #![tactic(auto)]
 
 mod heading;

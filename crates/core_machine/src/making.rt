@@ -13,9 +13,9 @@ use image_machine::FilledPlan;
 use machine::Dump;
 use std::alloc::Global;
 
-/// Reads a core file up to the last byte of its segments, and makes a machine with its memory: a page frame of zeros
-/// is free, and each other is in use and has its page. The machine has one zone from page frame 0 on, and an area of
-/// so many slots, or of as many as page frames, and of at least two. What follows those bytes isn't read.
+/// Reads a core file up to the last byte of its segments, and makes a machine with its memory: a page frame of zeros is
+/// free, and every other one is in use and has its page. The machine has one zone from page frame 0 on, and an area of
+/// `slots` slots, or else of as many as page frames, but at least two. What follows those bytes isn't read.
 pub fn machine_of_core<S: Source>(
     alloc: Global,
     source: &mut S,

@@ -7,7 +7,7 @@ use thiserror::Error;
 /// Why there is no dump.
 #[derive(Clone, Copy, Debug, PartialEq, Eq, Error)]
 pub enum Stop {
-    /// The input is no core file that can be read.
+    /// The input isn't a core file that can be read.
     #[error("{0}")]
     Core(Fault),
     /// No machine has the memory of the file.

@@ -15,14 +15,15 @@ use Rattle.swsusp_cli.specs.Loads.{written_told}
 use Rattle.swsusp_cli.specs.Replay.{unread_note}
 use Rattle.core_machine_cli.specs.FaultLines.{fault_line}
 
--- Of a source that failed a note is tried, once, and out isn't called; every other cause is told as an answer.
+-- If the source failed, one note is attempted, and `out` isn't called; every other cause is printed as an answer.
 abbrev pub IsWhyTold : Stop → Status → (out out' note note' : SinkView) → Type 0
 IsWhyTold (Core fault) status out out' note note' = IsTold (refused (fault_line fault)) status out out' note note'
 IsWhyTold (Limit limit) status out out' note note' = IsTold (refused (limit_line limit)) status out out' note note'
 IsWhyTold Source status out out' note note' = (status ≡ Stream) × (out' ≡ out) × IsTried unread_note note note'
 IsWhyTold Memory status out out' note note' = IsTold memory_told status out out' note note'
 
--- The dump of a machine with the memory that the input tells, or why there is none: of its bytes, where those are told.
+-- The dump of a machine with the memory in the input, or why there is none: by the bytes of the input, if it tells
+-- them.
 pub data GivesOfCore (left : Option (List ℕ)) (slots : Option ℕ) (status : Status)
     (out out' note note' : SinkView) : Type 0 where
   made : (dump : Dump) → ((bytes : List ℕ) → left ≡ Some bytes → IsOfCore bytes slots dump) →

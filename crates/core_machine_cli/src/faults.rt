@@ -4,7 +4,7 @@ ghost use Rattle.core_machine_cli.specs.FaultLines.{fault_line};
 use byte_streams::Line;
 use core_segments::Fault;
 
-/// The line that says why a core file is refused.
+/// Returns the line that says why a core file is refused.
 pub(crate) fn fault_line(fault: &Fault) -> Line
     ensures { result ≡ fault_line fault.now }
 {

@@ -1,4 +1,4 @@
-//! The command of `swsusp_machine` that makes a dump of a core file.
+//! The command of `swsusp_machine` that makes a dump from a core file.
 #![tactic(auto)]
 
 mod faults;

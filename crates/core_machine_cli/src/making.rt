@@ -14,7 +14,7 @@ use image_machine_cli::limit_line;
 use std::alloc::Global;
 use swsusp_cli::{Stop as InputStop, tell_dump};
 
-/// Reads a core file of a machine's memory, and prints the dump of a machine with that memory. Where there is none the
+/// Reads a core file of a machine's memory, and prints the dump of a machine with that memory. If there is none, the
 /// note says why. No disk is used.
 #[inline(never)]
 pub fn from_core<I: Source, O: Sink, N: Sink>(
@@ -40,7 +40,7 @@ pub fn from_core<I: Source, O: Sink, N: Sink>(
     }
 }
 
-/// Tells why there is no dump.
+/// Prints why there is no dump.
 fn tell_why<O: Sink, N: Sink>(why: Stop, out: &mut O, note: &mut N) -> Status
     ensures told { IsWhyTold why result
         (sink_view O.Sink out.old)
@@ -60,7 +60,7 @@ fn tell_why<O: Sink, N: Sink>(why: Stop, out: &mut O, note: &mut N) -> Status
     }
 }
 
-/// Ends with a line as the note.
+/// Ends the command with a line as the note.
 fn refuse<O: Sink, N: Sink>(line: &Line, out: &mut O, note: &mut N) -> Status
     ensures told { IsTold (refused line.now) result
         (sink_view O.Sink out.old)

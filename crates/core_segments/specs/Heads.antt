@@ -1,5 +1,5 @@
--- What stands before the segments' bytes in a core file (System V gABI, "Object Files"; elf.h): the file header, and
--- the program headers where that says.
+-- What precedes the segments' bytes in a core file (System V gABI, "Object Files"; elf.h): the file header, and the
+-- program headers at the place that it names.
 use Rattle.std.specs.Prelude.{ℕ, ◌+◌, ◌*◌, ◌^◌, ◌==◌, ◌&&◌, ◌||◌, not, nat_lt, nat_le, nat_eq, Bool}
 use Rattle.std.specs.Prelude.{List, [], ◌∷◌, filter, length, map, Option, Some, None, slice_index}
 use Rattle.std.specs.List.{range_with_len, starts_with}
@@ -31,7 +31,7 @@ entry_size header = number_at 2 header 54
 abbrev pub entry_count : List ℕ → ℕ
 entry_count header = number_at 2 header 56
 
--- where the program headers end, of 56 bytes each
+-- the end of the program headers, each of 56 bytes
 abbrev pub table_end : List ℕ → ℕ
 table_end header = table_place header + 56 * entry_count header
 
@@ -39,7 +39,7 @@ table_end header = table_place header + 56 * entry_count header
 abbrev pub has_magic : List ℕ → Bool
 has_magic header = starts_with nat_eq header (127 ∷ 69 ∷ 76 ∷ 70 ∷ [])
 
--- ELFCLASS64, ELFDATA2LSB, EV_CURRENT, ET_CORE, EV_CURRENT; program headers of their size after the file header, at
+-- ELFCLASS64, ELFDATA2LSB, EV_CURRENT, ET_CORE, EV_CURRENT; program headers of the right size after the file header, at
 -- least one of them, and fewer than PN_XNUM
 unfoldable pub header_fault : List ℕ → Option Fault
 header_fault header = first_some (
@@ -66,7 +66,7 @@ entry_of bytes = record {
   };
 }
 
--- entry i of those that begin at a place
+-- entry i of the table that begins at a place
 abbrev pub entry_at : List ℕ → ℕ → ℕ → ProgramHeader
 entry_at bytes place i = entry_of (bytes_at 56 bytes (place + 56 * i))
 
@@ -97,7 +97,7 @@ segments_in bytes = kept (loads_of (table_in bytes))
 abbrev pub kept_fault : ℕ → List Segment → Option Fault
 kept_fault place segments = or_else (none_fault segments) (segments_fault 0 place segments)
 
--- the first fault of what stands before the segments' bytes
+-- the first fault of what precedes the segments' bytes
 unfoldable pub table_fault : List ℕ → Option Fault
 table_fault bytes =
     or_else (wanted bytes 64) (or_else (header_fault (header_in bytes))

@@ -1,5 +1,5 @@
--- The identity that a core file tells: in a note as `swsusp_machine core` and `swsusp_image core` write it, or else the
--- name of the machine alone.
+-- The identity in a core file: that of a note as `swsusp_machine core` and `swsusp_image core` write it, or else only
+-- the name of the machine.
 use Rattle.std.specs.Prelude.{◌≡◌, ℕ, ◌+◌, ◌-◌, ◌==◌, ◌&&◌, nat_le, nat_eq, Bool, List, [], ◌∷◌, ◌++◌, codes, length}
 use Rattle.std.specs.Prelude.{replicate, Option, Some, None, if◌then◌else◌}
 use Rattle.std.specs.List.{find, starts_with}
@@ -33,7 +33,7 @@ name_of_machine machine =
 abbrev pub filled : List ℕ → List ℕ
 filled name = name ++ replicate (65 - length name) 0
 
--- the identity of a machine of which its number alone is known
+-- the identity of a machine of which only the number is known
 unfoldable pub foreign_ident : ℕ → Ident
 foreign_ident machine = record {
   version_code = 0;
@@ -41,24 +41,24 @@ foreign_ident machine = record {
       ∷ filled (name_of_machine machine) ∷ filled [] ∷ [];
 }
 
--- an identity of 396 bytes, as an info page begins (struct swsusp_info, kernel/power/power.h)
+-- an identity of 396 bytes, as at the beginning of an info page (struct swsusp_info, kernel/power/power.h)
 unfoldable pub told_ident : List ℕ → Ident
 told_ident bytes = record { version_code = number_at 4 bytes 392; names = names_of bytes }
 
--- PT_NOTE with the size of such a note, which lies between two places
+-- a PT_NOTE of the size of such a note, lying between two places
 abbrev pub is_note : ℕ → ℕ → ProgramHeader → Bool
 is_note from to entry =
     entry.kind == 4 && entry.segment.file_size == 420
     && nat_le from entry.segment.offset && nat_le (entry.segment.offset + 420) to
 
--- the first one after the program headers and before the segments' bytes
+-- the first such note after the program headers and before the segments' bytes
 abbrev pub note_between : List ProgramHeader → ℕ → List Segment → Option ProgramHeader
 note_between table place segments = find (is_note place (first_place segments)) table
 
 unfoldable pub note_in : List ℕ → Option ProgramHeader
 note_in bytes = note_between (table_in bytes) (table_end (header_in bytes)) (segments_in bytes)
 
--- whether a note is one of an identity: it begins as each of those does
+-- whether a note is one of an identity: it has the beginning that each of those has
 abbrev pub is_own : List ℕ → Bool
 is_own note = starts_with nat_eq note (note_bytes [])
 
@@ -69,7 +69,7 @@ abbrev pub ident_with : List ℕ → ℕ → Option ProgramHeader → Ident
 ident_with bytes machine None = foreign_ident machine
 ident_with bytes machine (Some entry) = ident_by machine (bytes_at 420 bytes entry.segment.offset)
 
--- the identity of a file, what is wrong with it, and how far it is read for that
+-- the identity of a file, what is wrong with it, and how far the file is read for that
 abbrev pub ident_in : List ℕ → Ident
 ident_in bytes = ident_with bytes (machine_of (header_in bytes)) (note_in bytes)
 
@@ -84,11 +84,11 @@ note_fault bytes (Some entry) = wanted bytes (entry.segment.offset + 420)
 abbrev pub head_end : List ℕ → ℕ
 head_end bytes = note_end (table_end (header_in bytes)) (note_in bytes)
 
--- the first fault of what stands before the segments' bytes
+-- the first fault of what precedes the segments' bytes
 unfoldable pub head_fault : List ℕ → Option Fault
 head_fault bytes = or_else (table_fault bytes) (note_fault bytes (note_in bytes))
 
--- these bytes have no fault, and say so
+-- these bytes have no fault, and this is what they say
 pub record IsCore (bytes : List ℕ) (core : Core) : Type 0 where
   pub no_fault : head_fault bytes ≡ None
   pub segments : core.segments.items ≡ segments_in bytes

@@ -10,7 +10,7 @@ use Rattle.core_segments.specs.Segments.{frames_of, place_after}
 use Rattle.core_segments.specs.declared.fault.Fault.{Fault}
 use Rattle.core_segments.specs.declared.segment.Segment.{Segment}
 
--- The byte at an address: it is in the file where the address lies in p_filesz, and else 0.
+-- The byte at an address: that of the file if the address lies within p_filesz, else 0.
 abbrev pub byte_at : List ℕ → Segment → ℕ → ℕ
 byte_at bytes s address =
     if nat_le s.address address && nat_lt address (s.address + s.file_size)
@@ -27,7 +27,7 @@ pages_in bytes s = map (λ p. (p, page_of bytes s p)) (frames_of s)
 unfoldable pub pages_of : List ℕ → List Segment → List (ℕ × List ℕ)
 pages_of bytes segments = flat_map (pages_in bytes) segments
 
--- Of the addresses of a page frame the file has bytes for those from one on up to before another.
+-- The addresses of a page frame that the file has bytes for: from the first one up to the second, exclusive.
 abbrev pub from_address : Segment → ℕ → ℕ
 from_address s p = max s.address (4096 * p)
 
@@ -37,26 +37,26 @@ to_address s p = min (s.address + s.file_size) (4096 * p + 4096)
 abbrev pub has_bytes : Segment → ℕ → Bool
 has_bytes s p = nat_lt (from_address s p) (to_address s p)
 
--- where these bytes lie, and where they end
+-- the place of these bytes, and their end
 abbrev pub page_place : Segment → ℕ → ℕ
 page_place s p = s.offset + (from_address s p - s.address)
 
 abbrev pub page_end : Segment → ℕ → ℕ
 page_end s p = s.offset + (to_address s p - s.address)
 
--- where a file is read to that was read to a place, once it is read for a page frame
+-- how far the file is read after a page frame was read, if it was read up to a place before
 abbrev pub reached : ℕ → Segment → ℕ → ℕ
 reached place s p = if has_bytes s p then page_end s p else place
 
--- the fault of a file that ends before
+-- the fault of a file that ends before the bytes of the page frame
 abbrev pub page_fault : List ℕ → Segment → ℕ → Option Fault
 page_fault bytes s p = if has_bytes s p then wanted bytes (page_end s p) else None
 
--- where the bytes of segments end that lie from a place on
+-- the end of the bytes of segments from a place on
 unfoldable pub places_end : ℕ → List Segment → ℕ
 places_end place [] = place
 places_end place (s ∷ segments) = places_end (place_after place s) segments
 
--- the first fault of a file: it has what stands before the bytes of its segments, and those
+-- the first fault of a file: in what precedes the bytes of its segments, or because those are missing
 unfoldable pub core_fault : List ℕ → Option Fault
 core_fault bytes = or_else (head_fault bytes) (wanted bytes (places_end (head_end bytes) (segments_in bytes)))

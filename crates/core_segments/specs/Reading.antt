@@ -4,13 +4,12 @@ use Rattle.core_segments.specs.declared.fault.Fault.{Fault}
 use Rattle.core_segments.specs.declared.fault.Stop.{Stop}
 use Rattle.core_segments.specs.declared.fault.Stop.TheVariants as stop
 
--- of these bytes the first k are read, and the rest is left
+-- of these bytes the first k were read, and the rest is left
 pub record IsReadTo (bytes : List ℕ) (k : ℕ) (left : Option (List ℕ)) : Type 0 where
   pub within : k ≤ length bytes
   pub rest : left ≡ Some (drop k bytes)
 
--- A fault that is told is the first one of the bytes. That the source failed or memory was refused says nothing of
--- the bytes.
+-- A reported fault is the first one of the bytes. A failed source or refused memory says nothing about the bytes.
 abbrev pub Stops : Option Fault → Stop → Type 0
 Stops first (stop.Fault fault) = first ≡ Some fault
 Stops first stop.Source = ⊤

@@ -6,10 +6,10 @@ use thiserror::Error;
 /// Why a core file is refused.
 #[derive(Clone, Copy, Debug, PartialEq, Eq, Error)]
 pub enum Fault {
-    /// The file has so many bytes, and more are wanted.
+    /// The file has `at` bytes, and more are wanted.
     #[error("core file ends at byte {at}")]
     Short { at: u64 },
-    /// It doesn't begin with ELFMAG.
+    /// The file doesn't begin with ELFMAG.
     #[error("no ELF file")]
     Magic,
     /// `EI_CLASS`, which isn't ELFCLASS64.
@@ -45,10 +45,10 @@ pub enum Fault {
     /// The last address of a segment, which isn't one of the first 65,536 page frames.
     #[error("limit page frames 65536: address {address}")]
     Limit { address: u64 },
-    /// A segment has a page frame of one before, or lies below it.
+    /// A segment shares a page frame with the one before it, or lies below it.
     #[error("segment at address {address}: not above the one before")]
     Overlap { address: u64 },
-    /// The bytes of a segment lie before those of the one before have ended.
+    /// The bytes of a segment begin before the end of those of the segment before.
     #[error("segment at address {address}: its bytes lie before others")]
     Place { address: u64 },
     /// `p_offset` is beyond 2^48.

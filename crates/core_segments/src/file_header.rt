@@ -21,13 +21,13 @@ pub(crate) const FILE_HEADER: usize = 64;
 
 pub(crate) const PROGRAM_HEADER: usize = 56;
 
-/// What `e_phnum` has where the number of program headers stands elsewhere.
+/// The value of `e_phnum` if the number of program headers is stored elsewhere.
 const PN_XNUM: u16 = 0xffff;
 
-/// The last place at which something may begin that is read.
+/// The last place at which something that is read may begin.
 pub(crate) const LAST_PLACE: u64 = 1 << 48;
 
-/// What the file header says: the machine, and where the program headers begin, and how many they are.
+/// What the file header says: the machine, where the program headers begin, and how many there are.
 #[derive(Clone, Copy)]
 pub(crate) struct FileHeader {
     pub(crate) machine: u16,
@@ -35,7 +35,7 @@ pub(crate) struct FileHeader {
     pub(crate) count: u16,
 }
 
-/// What a file header says, where it is that of a core file.
+/// Returns what a file header says, if it is that of a core file.
 #[tactic(auto, unfolding(crate::specs::Heads::header_fault))]
 pub(crate) fn file_header_of(header: &[u8]) -> Result<FileHeader, Fault>
     requires { length header.now ≡ 64 }
@@ -75,7 +75,7 @@ pub(crate) fn file_header_of(header: &[u8]) -> Result<FileHeader, Fault>
     })
 }
 
-/// That a test holds.
+/// Returns the fault unless the test passes.
 pub(crate) fn check(test: bool, fault: Fault) -> Result<(), Fault>
     ensures fault { fault_in result ≡ unless test fault }
     ensures test { OnOk result (IsTrue test) }

@@ -11,7 +11,7 @@ use byte_streams::{Source, fill};
 /// How many bytes are passed over at once.
 const CHUNK: usize = 4096;
 
-/// Fills a piece with the bytes from a place on.
+/// Fills `piece` with the bytes from place `at` on.
 pub(crate) fn take_exact<S: Source>(source: &mut S, piece: &mut [u8], at: u64) -> Result<(), Stop>
     requires early { at ≤ 2 ^ 60 }
     requires small { length piece.old ≤ 4096 }
@@ -36,7 +36,7 @@ pub(crate) fn take_exact<S: Source>(source: &mut S, piece: &mut [u8], at: u64) -
     }
 }
 
-/// Passes over the bytes from a place up to another.
+/// Passes over the bytes from place `from` up to place `to`.
 pub(crate) fn skip<S: Source>(source: &mut S, from: u64, to: u64) -> Result<(), Stop>
     requires order { from ≤ to }
     requires early { to ≤ 2 ^ 60 }

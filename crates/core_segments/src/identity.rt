@@ -38,20 +38,21 @@ const LOONGARCH: u16 = 258;
 /// `PT_NOTE`.
 const PT_NOTE: u32 = 4;
 
-/// The note with its name and its descriptor.
+/// The size of the note, with its name and its descriptor.
 const NOTE: usize = 420;
 
-/// How it begins: the sizes of its name and its descriptor, its type, and the name, filled to 12 bytes.
+/// The beginning of the note: the sizes of its name and its descriptor, its type, and the name, filled to 12 bytes.
 const NOTE_HEAD: [u8; 24] = *b"\x09\0\0\0\x8c\x01\0\0\x01\0\0\0DIRUKOFE\0\0\0\0";
 
-/// Where a file is read on, and the identity that it tells.
+/// The place at which reading continues, and the identity that was found.
 #[derive(Clone, Copy)]
 pub(crate) struct Told {
     pub(crate) ident: Ident,
     pub(crate) place: u64,
 }
 
-/// Reads the note of an identity, where there is one, and tells the identity of a machine.
+/// Reads the note of an identity, if there is one, and returns that identity, or else one made from the machine's
+/// number.
 pub(crate) fn read_ident<S: Source>(
     source: &mut S,
     place: u64,
@@ -114,7 +115,7 @@ fn read_note<S: Source>(
     Ok(ident_by(machine, &note))
 }
 
-/// The identity that a note tells, or else that of a machine.
+/// Returns the identity of a note, or else that of a machine.
 #[tactic(auto, unfolding(crate::specs::Notes::ident_by))]
 fn ident_by(machine: u16, note: &[u8]) -> Ident
     requires { length note.now ≡ 420 }
@@ -127,7 +128,7 @@ fn ident_by(machine: u16, note: &[u8]) -> Ident
     }
 }
 
-/// Whether a note begins as one that tells an identity.
+/// Returns whether a note begins as one of an identity does.
 #[tactic(auto, unfolding(elf_core::specs::Elf::note_bytes))]
 fn is_own(note: &[u8]) -> bool
     ensures { result ≡ is_own note.now }
@@ -135,7 +136,7 @@ fn is_own(note: &[u8]) -> bool
     note.starts_with(&NOTE_HEAD)
 }
 
-/// The identity of 396 bytes.
+/// Returns the identity stored in 396 bytes.
 #[tactic(auto, unfolding(crate::specs::Notes::told_ident))]
 fn told_ident(bytes: &[u8]) -> Ident
     requires { length bytes.now ≡ 396 }
@@ -147,7 +148,7 @@ fn told_ident(bytes: &[u8]) -> Ident
     }
 }
 
-/// Six names of 65 bytes each.
+/// Returns six names of 65 bytes each.
 fn names_of(bytes: &[u8]) -> [[u8; 65]; 6]
     requires { 390 ≤ length bytes.now }
     ensures { result ≡ names_of bytes.now }
@@ -158,7 +159,7 @@ fn names_of(bytes: &[u8]) -> [[u8; 65]; 6]
     names
 }
 
-/// The identity of a machine of which its number alone is known.
+/// Returns the identity of a machine of which only the number is known.
 #[tactic(auto, unfolding(crate::specs::Notes::foreign_ident))]
 fn foreign_ident(machine: u16) -> Ident
     ensures { result ≡ foreign_ident machine }
@@ -177,7 +178,7 @@ fn foreign_ident(machine: u16) -> Ident
     }
 }
 
-/// A name filled to 65 bytes.
+/// Returns a name filled to 65 bytes.
 fn filled(name: &[u8]) -> [u8; 65]
     requires { length name.now ≤ 65 }
     ensures { result ≡ filled name.now }
@@ -187,7 +188,7 @@ fn filled(name: &[u8]) -> [u8; 65]
     bytes
 }
 
-/// Linux' name of a machine by its number.
+/// Returns Linux' name of a machine, given its number.
 fn name_of_machine(machine: u16) -> &'static [u8]
     ensures name { result.now ≡ name_of_machine machine }
     ensures short { length result.now ≤ 65 }
@@ -213,7 +214,7 @@ fn name_of_machine(machine: u16) -> &'static [u8]
     }
 }
 
-/// The first note that lies between two places and has the size of one that tells an identity: where it lies.
+/// Returns the first note that lies between two places and has the size of one of an identity.
 pub(crate) fn note_between(table: &[ProgramHeader], from: u64, to: u64) -> Option<ProgramHeader>
     ensures { result ≡ find (is_note from to) table.now }
 {

@@ -6,7 +6,7 @@ use crate::table::push_segment;
 use page_core::NoMemory;
 use std::alloc::Global;
 
-/// The segments of which no other one has all addresses.
+/// Returns the segments whose addresses aren't all in another one.
 #[tactic(auto, unfolding(crate::specs::Segments::kept))]
 pub(crate) fn kept_of(alloc: Global, loads: &[Segment]) -> Result<Vec<Segment>, NoMemory>
     ensures { IfOk result (λ segments. segments.items ≡ kept loads.now) }
@@ -20,7 +20,7 @@ pub(crate) fn kept_of(alloc: Global, loads: &[Segment]) -> Result<Vec<Segment>, 
     Ok(segments)
 }
 
-/// Whether another segment has all addresses of this one.
+/// Returns whether another segment has all addresses of this one.
 fn is_passed_over(loads: &[Segment], i: usize) -> bool
     requires { i < length loads.now }
     ensures { result ≡ is_passed_over loads.now i }
@@ -28,7 +28,7 @@ fn is_passed_over(loads: &[Segment], i: usize) -> bool
     (0..loads.len()).any(|j| is_covered_by(loads, i, j))
 }
 
-/// Whether segment j has all addresses of segment i, and has more or stands before it.
+/// Returns whether segment `j` has all addresses of segment `i`, and has more or comes before it.
 fn is_covered_by(loads: &[Segment], i: usize, j: usize) -> bool
     requires i { i < length loads.now }
     requires j { j < length loads.now }

@@ -1,6 +1,6 @@
 //! Core files of a machine's memory (ELF, System V gABI, "Object Files"; the names of structures and constants are
-//! those of elf.h), which are read from a source in one pass: what stands before the bytes of the segments, and then
-//! their page frames, one after another.
+//! those of elf.h), read from a source in one pass: first what precedes the bytes of the segments, then their page
+//! frames, one after another.
 #![tactic(auto)]
 
 mod fault;

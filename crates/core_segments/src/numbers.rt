@@ -3,7 +3,7 @@ ghost use Rattle.definitions.specs.Bytes.{number_at};
 
 use byteorder::{ByteOrder, LittleEndian};
 
-/// The number of 2 bytes at a place.
+/// Returns the number of 2 bytes at a place.
 #[tactic(auto, unfolding(definitions::specs::Bytes::number_at))]
 pub(crate) fn half(bytes: &[u8], at: usize) -> u16
     requires { at + 2 ≤ length bytes.now }
@@ -12,7 +12,7 @@ pub(crate) fn half(bytes: &[u8], at: usize) -> u16
     LittleEndian::read_u16(&bytes[at..])
 }
 
-/// The number of 4 bytes at a place.
+/// Returns the number of 4 bytes at a place.
 #[tactic(auto, unfolding(definitions::specs::Bytes::number_at))]
 pub(crate) fn word(bytes: &[u8], at: usize) -> u32
     requires { at + 4 ≤ length bytes.now }
@@ -21,7 +21,7 @@ pub(crate) fn word(bytes: &[u8], at: usize) -> u32
     LittleEndian::read_u32(&bytes[at..])
 }
 
-/// The number of 8 bytes at a place.
+/// Returns the number of 8 bytes at a place.
 #[tactic(auto, unfolding(definitions::specs::Bytes::number_at))]
 pub(crate) fn xword(bytes: &[u8], at: usize) -> u64
     requires { at + 8 ≤ length bytes.now }

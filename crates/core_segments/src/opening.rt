@@ -26,15 +26,15 @@ use std::alloc::Global;
 /// What a core file says before the bytes of its segments.
 #[derive(Drop)]
 pub struct Core {
-    /// The identity that its note tells, or else the name of the machine alone.
+    /// The identity in its note, or else only the name of the machine.
     pub ident: Ident,
-    /// The segments that are kept. They ascend, share no page frame, and so do their bytes.
+    /// The segments that are kept. They ascend without sharing a page frame, and so do their bytes.
     pub segments: Vec<Segment>,
-    /// How many bytes of the file are read.
+    /// How many bytes of the file were read.
     pub place: u64,
 }
 
-/// Reads what stands before the bytes of the segments. A fault is the first one, where several could be named.
+/// Reads what precedes the bytes of the segments. If there are several faults, the first one is returned.
 pub fn open<S: Source>(alloc: Global, source: &mut S) -> Result<Core, Stop>
     ensures stopped { IfErr result (λ why. (bytes : List ℕ) → S.remaining source.old ≡ Some bytes →
         Stops (head_fault bytes) why) }
@@ -85,7 +85,7 @@ fn read_header<S: Source>(source: &mut S) -> Result<FileHeader, Stop>
     Ok(file_header_of(&bytes)?)
 }
 
-/// The segments of a table that are kept.
+/// Returns the segments of a table that are kept.
 fn segments_of(alloc: Global, table: &[ProgramHeader]) -> Result<Vec<Segment>, NoMemory>
     ensures { IfOk result (λ segments. segments.items ≡ kept (loads_of table.now)) }
 {

@@ -8,10 +8,10 @@ use crate::fault::Fault;
 use crate::file_header::{LAST_PLACE, check};
 use crate::segment::Segment;
 
-/// How many addresses the largest machine has.
+/// The number of addresses of the largest machine.
 const MOST_ADDRESSES: u128 = 1 << 28;
 
-/// Whether there are segments, and they follow one another, with their bytes from a place on.
+/// Checks that there are segments, and that they follow one another, with their bytes from a place on.
 pub(crate) fn check_kept(segments: &[Segment], place: u64) -> Result<(), Fault>
     ensures { fault_in result ≡ kept_fault place segments.now }
 {
@@ -19,7 +19,7 @@ pub(crate) fn check_kept(segments: &[Segment], place: u64) -> Result<(), Fault>
     check_segments(segments, place)
 }
 
-/// Whether segments follow one another, with their bytes from a place on.
+/// Checks that segments follow one another, with their bytes from a place on.
 #[tactic(auto, unfolding(crate::specs::Segments::segments_fault))]
 fn check_segments(segments: &[Segment], place: u64) -> Result<(), Fault>
     ensures { fault_in result ≡ segments_fault 0 place segments.now }
@@ -34,7 +34,7 @@ fn check_segments(segments: &[Segment], place: u64) -> Result<(), Fault>
     Ok(())
 }
 
-/// Whether a segment may follow, where page frames are free from this one on, and bytes were read up to this place.
+/// Checks that a segment may follow: page frames are free from `free` on, and bytes were read up to `place`.
 fn check_segment(free: u32, place: u64, segment: &Segment) -> Result<(), Fault>
     ensures fault { fault_in result ≡ segment_fault free place segment.now }
     ensures end { OnOk result (address_end segment.now ≤ 2 ^ 28) }
@@ -47,7 +47,7 @@ fn check_segment(free: u32, place: u64, segment: &Segment) -> Result<(), Fault>
     check_place(place, segment)
 }
 
-/// Whether a segment has no more bytes in the file than in memory, and none beyond the largest machine.
+/// Checks that a segment has no more bytes in the file than in memory, and none beyond the largest machine.
 #[tactic(auto, unfolding(crate::specs::Segments::size_fault))]
 fn check_size(segment: &Segment) -> Result<(), Fault>
     ensures fault { fault_in result ≡ size_fault segment.now }
@@ -69,7 +69,7 @@ fn check_size(segment: &Segment) -> Result<(), Fault>
     Ok(())
 }
 
-/// Whether the bytes of a segment lie from a place on.
+/// Checks that the bytes of a segment lie at or after a place.
 #[tactic(auto, unfolding(crate::specs::Segments::place_fault))]
 fn check_place(place: u64, segment: &Segment) -> Result<(), Fault>
     ensures fault { fault_in result ≡ place_fault place segment.now }
@@ -84,7 +84,7 @@ fn check_place(place: u64, segment: &Segment) -> Result<(), Fault>
     check(offset <= LAST_PLACE, Fault::Far { place: offset })
 }
 
-/// Where the bytes end that are read once a segment is.
+/// Returns the end of the bytes that are read once a segment is.
 fn place_after(place: u64, segment: &Segment) -> u64
     requires sizes { segment.now.file_size ≤ 2 ^ 28 }
     requires near { 0 < segment.now.file_size → segment.now.offset ≤ 2 ^ 48 }
@@ -97,7 +97,7 @@ fn place_after(place: u64, segment: &Segment) -> u64
     }
 }
 
-/// Where the first bytes of segments lie.
+/// Returns the place of the first bytes of segments.
 #[tactic(auto, unfolding(crate::specs::Segments::first_place))]
 pub(crate) fn first_place(segments: &[Segment]) -> u64
     ensures { result ≡ first_place segments.now }

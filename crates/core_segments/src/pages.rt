@@ -15,8 +15,8 @@ use page_core::Page;
 
 const PAGE: u64 = 4096;
 
-/// Reads on from a place to the bytes of a page frame of a segment, and makes its page. Answers up to where the file
-/// is read then.
+/// Reads from a place up to the bytes of a page frame of a segment, and makes its page. Returns the place up to which
+/// the file was then read.
 pub fn read_page<S: Source>(
     source: &mut S,
     place: u64,
@@ -55,7 +55,7 @@ pub fn read_page<S: Source>(
     Ok(segment.offset + (to - segment.address))
 }
 
-/// Of the addresses of a page frame those that the file has bytes for: from one on up to before another.
+/// Returns the addresses of a page frame that the file has bytes for: from the first one up to the second, exclusive.
 fn addresses(segment: &Segment, frame: u32) -> (u64, u64)
     requires end { address_end segment.now ≤ 2 ^ 28 }
     requires sizes { segment.now.file_size ≤ segment.now.memory_size }

@@ -26,7 +26,7 @@ pub(crate) struct ProgramHeader {
     pub(crate) segment: Segment,
 }
 
-/// Reads so many program headers, which begin at a place.
+/// Reads the given number of program headers from a place on.
 pub(crate) fn read_table<S: Source>(
     alloc: Global,
     source: &mut S,
@@ -70,7 +70,7 @@ fn read_entry<S: Source>(source: &mut S, at: u64) -> Result<ProgramHeader, Stop>
     Ok(entry_of(&bytes))
 }
 
-/// What the bytes of a program header say.
+/// Parses the bytes of a program header.
 #[tactic(auto, unfolding(crate::specs::Heads::entry_of))]
 fn entry_of(bytes: &[u8]) -> ProgramHeader
     requires { length bytes.now ≡ 56 }
@@ -93,7 +93,7 @@ fn push_entry(table: &mut Vec<ProgramHeader>, entry: ProgramHeader) -> Result<()
     table.push(entry).map_err(|_| NoMemory)
 }
 
-/// The segments of a table that have memory.
+/// Returns the segments of a table that have memory.
 pub(crate) fn loads_of(alloc: Global, table: &[ProgramHeader]) -> Result<Vec<Segment>, NoMemory>
     ensures { IfOk result (λ loads. loads.items ≡ loads_of table.now) }
 {
@@ -106,7 +106,7 @@ pub(crate) fn loads_of(alloc: Global, table: &[ProgramHeader]) -> Result<Vec<Seg
     Ok(loads)
 }
 
-/// Whether a program header is that of a segment that isn't empty.
+/// Returns whether a program header is that of a segment that isn't empty.
 fn is_load(entry: &ProgramHeader) -> bool
     ensures { result ≡ is_load entry.now }
 {

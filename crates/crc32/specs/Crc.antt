@@ -7,18 +7,18 @@ use Rattle.std.specs.Fn.{iterate}
 abbrev pub polynomial : ℕ
 polynomial = 0xEDB88320
 
--- a bit more: the lowest one is shifted out, and the polynomial is added where it was set
+-- one more bit: the lowest one is shifted out, and the polynomial is added if it was set
 abbrev pub after_bit : ℕ → ℕ
 after_bit n = bit_xor (n / 2) (if n % 2 == 1 then polynomial else 0)
 
--- a byte more, added to the low bits
+-- one more byte, added to the low bits
 unfoldable pub after_byte : ℕ → ℕ → ℕ
 after_byte n byte = iterate after_bit 8 (bit_xor n byte)
 
--- all bytes, from the first on, without an inversion before or after them
+-- all bytes in order, without an inversion before or after them
 abbrev pub crc32 : ℕ → List ℕ → ℕ
 crc32 seed bytes = fold after_byte seed bytes
 
--- two pieces one after the other are one piece
+-- the checksum of two pieces in sequence is that of their concatenation
 abbrev pub IsComposed : ℕ → List ℕ → List ℕ → Type 0
 IsComposed seed front back = crc32 (crc32 seed front) back ≡ crc32 seed (front ++ back)

@@ -1,6 +1,6 @@
 //! The checksum of the kernel's `crc32_le` (lib/crc32.c): the reflected polynomial 0xEDB88320, from a given start, with
-//! no inversion. The kernel takes it of an image's pages before they are compressed, from 0 on (crc32_threadfn,
-//! kernel/power/swap.c).
+//! no inversion. The kernel computes it over an image's pages before they are compressed, starting with 0
+//! (crc32_threadfn, kernel/power/swap.c).
 #![tactic(auto)]
 
 mod table;
@@ -10,7 +10,7 @@ ghost use Rattle.crc32.specs.Crc.{after_byte, crc32};
 
 use table::AFTER_BYTE;
 
-/// The checksum of these bytes from this start, which is 0 or what came of the bytes before them.
+/// Returns the checksum of these bytes; `seed` is 0, or the checksum of the bytes before them.
 pub fn crc32_le(seed: u32, bytes: &[u8]) -> u32
     ensures { result ≡ crc32 seed bytes.now }
 {
@@ -21,7 +21,7 @@ pub fn crc32_le(seed: u32, bytes: &[u8]) -> u32
     crc
 }
 
-/// The remainder with a byte more.
+/// Returns the remainder with one more byte.
 fn add_byte(crc: u32, byte: u8) -> u32
     ensures { result ≡ after_byte crc byte }
 {

@@ -1,4 +1,4 @@
-/// What eight bits make of each number below 256 (`crc32table_le`, which lib/gen_crc32table.c writes).
+/// The effect of eight bits on each number below 256 (`crc32table_le`, which lib/gen_crc32table.c writes).
 pub(crate) static AFTER_BYTE: [u32; 256] = [
     0x0000_0000,
     0x7707_3096,

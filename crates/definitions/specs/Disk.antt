@@ -26,7 +26,7 @@ pub record IsSector (s : Sector) : Type 0 where
   pub each : All (λ bytes. length bytes ≡ 512) s.candidates
   pub live : Contains s.candidates s.live
 
--- the content of a disk of so many blocks
+-- the content of a disk of `blocks` blocks
 pub record IsContent (blocks : ℕ) (c : Content) : Type 0 where
   pub size : length c ≡ 8 * blocks
   pub sectors : All IsSector c
@@ -88,14 +88,14 @@ Syncs old new = new ≡ settled (as_it_reads old)
 abbrev pub Restarts : Content → Content → Type 0
 Restarts old new = (v : DiskImage) × IsImage old v × (new ≡ settled v)
 
--- What a call makes of the content, where the disk tells it. Whether it tells it doesn't change.
+-- What a call does to the content of a disk that tells it. Whether the disk tells its content doesn't change.
 abbrev pub Changes : (Content → Content → Type 0) → Option Content → Option Content → Type 0
 Changes R None None = Unit {0}
 Changes R None (Some new) = ⊥
 Changes R (Some old) None = ⊥
 Changes R (Some old) (Some new) = R old new
 
--- Moments, where the disk tells them: a clock, and which images a crash since a moment might have left.
+-- Moments, of a disk that tells them: a clock, and the images that a crash since a moment might have left.
 
 -- each sector has a candidate from before or from after
 pub record IsMixture (old new : Content) (v : DiskImage) : Type 0 where

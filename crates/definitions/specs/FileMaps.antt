@@ -20,14 +20,14 @@ pub record AreFew (extents : List (ℕ × ℕ × ℕ)) : Type 0 where
   pub some : 1 ≤ length extents
   pub few : length extents ≤ 64
 
--- the extents of a swap area with so many slots
+-- the extents of a swap area of `slots` slots
 pub record IsFileMap (extents : List (ℕ × ℕ × ℕ)) (slots : ℕ) : Type 0 where
   pub count : AreFew extents
   pub each : (i : ℕ) → i < length extents → IsInOrder extents i
   pub covers : slots_of extents ≡ slots
 
--- Why extents are none: there are too few or too many (index 0), or the extent with this index is the first that is not
--- in order, or all are and don't cover just the slots (the index after the last).
+-- Why a list of extents is refused: it has too few or too many (index 0); or the extent with this index is the first
+-- that is not in order; or all are in order and don't cover exactly the slots (the index after the last).
 abbrev pub IsExtentFault : List (ℕ × ℕ × ℕ) → ℕ → ℕ → Type 0
 IsExtentFault extents slots at =
     (((length extents ≡ 0) ⊎ (64 < length extents)) × (at ≡ 0))

@@ -21,8 +21,8 @@ unfoldable pub assigned : List (List ℕ) → List Move → List (List ℕ)
 assigned frames moves =
     map (λ p. page_from frames (move_into moves p) (frame frames p)) (range_with_len 0 (length frames))
 
--- [order of moves]: the order in which pending moves are emitted, so that one after another they do what they do at
--- once.
+-- [order of moves]: the order in which pending moves are emitted, so that made one after another they have the effect
+-- of all at once.
 
 -- whether page frame p is the source of a pending move
 abbrev pub is_source : List Move → ℕ → Bool

@@ -3,7 +3,7 @@ use Rattle.std.specs.Prelude.{ℕ, List}
 use Rattle.definitions.specs.Bytes.{word, with_word}
 use Rattle.definitions.specs.NumberPages.{page_of_words}
 
--- the map page with these entries, of which there are at most 511, and this link; unused entries are 0
+-- the map page with these entries, at most 511, and this link; unused entries are 0
 unfoldable pub map_page : List ℕ → ℕ → List ℕ
 map_page entries link = with_word (page_of_words entries) 511 link
 

@@ -17,7 +17,7 @@ with_frame frames p page = slice_set frames p page
 unfoldable pub entry_at : List (List ℕ) → ℕ → ℕ → ℕ
 entry_at frames table k = number_at 4 (frame frames (table + k / 1024)) (4 * (k % 1024))
 
--- A table of n entries takes so many page frames in a row.
+-- The number of page frames that a table of n entries takes, in a row.
 abbrev pub table_frame_count : ℕ → ℕ
 table_frame_count n = (n + 1023) / 1024
 
@@ -80,7 +80,7 @@ saveable_frames zones table frames = filter (λ p. is_saveable (page_flags (entr
 unfoldable pub free_frames : List (ℕ × ℕ) → ℕ → List (List ℕ) → List ℕ
 free_frames zones table frames = filter (λ p. entry_at frames table p == 1) (numbers zones)
 
--- the slots whose entry is 0, of so many, by the slot table
+-- the slots among the first `slots` whose entry in the slot table is 0
 unfoldable pub free_slots : ℕ → ℕ → List (List ℕ) → List ℕ
 free_slots slots table frames = filter (λ s. entry_at frames table s == 0) (range_with_len 0 slots)
 

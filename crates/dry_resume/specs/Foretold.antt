@@ -1,4 +1,4 @@
--- What a resume that isn't made would answer.
+-- What a resume would answer, without making it.
 use Rattle.std.specs.Prelude.{◌≡◌, ◌⊎◌, ℕ, true, false}
 use Rattle.definitions.specs.Disk as disk
 use Rattle.plain_machine.specs.Machine.{Hardware, Memory}
@@ -10,8 +10,8 @@ use Rattle.command_laws.specs.Hibernations.{EndsInFault}
 use Rattle.command_laws.specs.Resumptions.{IsLast}
 use Rattle.command_core.specs.declared.ending.Ended.{Ended}
 
--- The answer over a disk that reads as v: the last reply of a resume's trace, unless a call of the disk has failed.
--- Where that is Resumed, the page frames are those that it would restore.
+-- The answer over a disk that reads as v: the last reply of a resume's trace, unless a call of the disk has failed. If
+-- the reply is Resumed, the page frames are those that the resume would restore.
 pub record Foretells (h : Hardware) (m : Memory) (check : IdentCheck) (v : disk.DiskImage) (frames : Memory)
     (ended : Ended) : Type 0 where
   pub answer : (IsLast (trace h m v Table check) ended.reply × (ended.failed ≡ false))

@@ -14,8 +14,9 @@ use sector_disk::Disk;
 use std::marker::Brand;
 use world_core::World;
 
-/// What a resume of the image on a disk into a new machine, whose dump's memory is the loader's, would answer last. The
-/// disk is only read: what the resume writes stays in memory, and an error says that there was none for a page of it.
+/// Returns the last answer that a resume of the image on a disk into a new machine, whose memory is that of the
+/// loader's dump, would give. The disk is only read: what the resume writes stays in memory, and an error says that
+/// there was none for a page of it.
 pub fn would_resume<D: Disk>(
     world: &mut World,
     disk: &mut D,
@@ -27,7 +28,7 @@ pub fn would_resume<D: Disk>(
         IfOk result (Foretells (hardware_of world.old) world.old.frames check (as_it_reads c) world.new.frames) }
     ensures hardware { hardware_of world.new ≡ hardware_of world.old }
 
-    // A failure is one of the disk.
+    // A failure means that a call of the disk has failed.
     ensures cause { IfOk result (λ ended. IsTrue ended.failed → HasRisen (D.faults disk.old) (D.faults disk.new)) }
     ensures faults { D.faults disk.old ≤ D.faults disk.new }
 

@@ -11,10 +11,10 @@ use definitions::Ident;
 use elf_core::{file_header, load, note, note_header, padding, page_offset, section};
 use page_core::{Failed, Page};
 
-/// How many bytes a page has.
+/// The number of bytes of a page.
 const PAGE_SIZE: u64 = 4096;
 
-/// Writes what lies before the pages of runs of page frames.
+/// Writes what precedes the pages of runs of page frames.
 pub(crate) fn put_head<K: Sink>(
     ident: &Ident,
     runs: &[(u32, u32)],
@@ -37,7 +37,7 @@ pub(crate) fn put_head<K: Sink>(
     put_back(ident, count, out)
 }
 
-/// How many runs there are.
+/// Returns how many runs there are.
 fn count_runs(runs: &[(u32, u32)]) -> u32
     requires { length runs.now ≤ 65536 }
     ensures { result ≡ length runs.now }
@@ -45,7 +45,7 @@ fn count_runs(runs: &[(u32, u32)]) -> u32
     runs.len() as u32
 }
 
-/// Writes what lies before the program headers of so many runs.
+/// Writes what precedes the program headers of `runs` runs.
 fn put_front<K: Sink>(ident: &Ident, runs: u32, out: &mut K) -> Result<(), Failed>
     requires { length ident.now.names ≡ 6 }
     ensures whole { OnOk result
@@ -58,7 +58,7 @@ fn put_front<K: Sink>(ident: &Ident, runs: u32, out: &mut K) -> Result<(), Faile
     put_all(out, note_header(runs).as_bytes())
 }
 
-/// Writes what lies between the program headers and the pages.
+/// Writes what comes between the program headers and the pages.
 fn put_back<K: Sink>(ident: &Ident, runs: u32, out: &mut K) -> Result<(), Failed>
     requires names { length ident.now.names ≡ 6 }
     requires each_name { All (λ name. length name ≡ 65) ident.now.names }
@@ -74,7 +74,7 @@ fn put_back<K: Sink>(ident: &Ident, runs: u32, out: &mut K) -> Result<(), Failed
     put_all(out, &Page::zero().as_bytes()[..padding(runs)])
 }
 
-/// Writes the program headers of runs, whose pages lie from a place on.
+/// Writes the program headers of runs whose pages lie from `start` on.
 fn put_loads<K: Sink>(start: u64, runs: &[(u32, u32)], out: &mut K) -> Result<(), Failed>
     requires place { start < 2 ^ 40 }
     requires few { length runs.now ≤ 65536 }
@@ -91,7 +91,8 @@ fn put_loads<K: Sink>(start: u64, runs: &[(u32, u32)], out: &mut K) -> Result<()
     Ok(())
 }
 
-/// Writes the program header of a run, whose pages lie from a place on. Moves the place to the pages of the next run.
+/// Writes the program header of a run whose pages lie from `offset` on, and moves `offset` to the pages of the next
+/// run.
 fn put_load<K: Sink>(offset: &mut u64, run: (u32, u32), out: &mut K) -> Result<(), Failed>
     requires { offset.old + 4096 * run.1 < 2 ^ 64 }
     ensures whole { OnOk result (TakesAll (load_bytes offset.old run.0 run.1) (K.taken out.old) (K.taken out.new)) }

@@ -6,10 +6,10 @@ use arrayvec::ArrayVec;
 use definitions::Ident;
 use elf_core::machine_of_name;
 
-/// Which name tells the machine (`struct new_utsname`).
+/// The index of the machine's name (`struct new_utsname`).
 const MACHINE: usize = 4;
 
-/// An identity as an info page begins: 396 bytes.
+/// Returns an identity as at the beginning of an info page: 396 bytes.
 #[tactic(auto, unfolding(crate::specs::Cores::identity_bytes, elf_core::specs::Numbers::word))]
 pub(crate) fn identity_bytes(ident: &Ident) -> ArrayVec<u8, 396>
     requires names { length ident.now.names ≡ 6 }
@@ -28,7 +28,7 @@ pub(crate) fn identity_bytes(ident: &Ident) -> ArrayVec<u8, 396>
     bytes
 }
 
-/// The number that ELF has for the machine of an identity.
+/// Returns the ELF number of the machine of an identity.
 pub(crate) fn machine_of(ident: &Ident) -> u16
     requires { length ident.now.names ≡ 6 }
     ensures { result ≡ machine_of ident.now }
@@ -37,7 +37,7 @@ pub(crate) fn machine_of(ident: &Ident) -> u16
     machine_of_name(&name[..text_len(name)])
 }
 
-/// How many bytes a name has before its first zero byte.
+/// Returns how many bytes a name has before its first zero byte.
 fn text_len(name: &[u8]) -> usize
     ensures { result ≡ length (text_of_name name.now) }
 {

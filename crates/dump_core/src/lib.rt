@@ -21,7 +21,7 @@ use page_core::Failed;
 use pages::put_pages;
 pub use telling::told_runs;
 
-/// Writes the core file of a dump, whose runs of page frames are these. Nothing is flushed.
+/// Writes the core file of a dump with these runs of page frames. Nothing is flushed.
 pub fn write_core<K: Sink>(dump: &Dump, runs: &[(u32, u32)], out: &mut K) -> Result<(), Failed>
     requires frames { length dump.now.frames ≡ top dump.now.hw.zones }
     requires runs { runs.now ≡ told_runs dump.now.hw dump.now.frames }
@@ -30,7 +30,7 @@ pub fn write_core<K: Sink>(dump: &Dump, runs: &[(u32, u32)], out: &mut K) -> Res
     ensures counted { K.faults out.old ≤ K.faults out.new }
     ensures cause { OnErr result (HasRisen (K.faults out.old) (K.faults out.new)) }
 {
-    // Only what is read is known to be hardware.
+    // Reading a field tells the prover the hardware invariant.
     let _ = dump.hw.zones();
     put_head(dump.hw.ident(), runs, out)?;
     put_pages(&dump.frames, runs, out)

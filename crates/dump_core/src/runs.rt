@@ -3,7 +3,7 @@ ghost use Rattle.definitions.specs.FreeRuns.{runs_of};
 
 use page_core::NoMemory;
 
-/// Adds a number to runs: to the last one, where the number follows that, or else as a run of its own.
+/// Adds a number to runs: to the last one if the number follows it, or else as a run of its own.
 pub(crate) fn add_number(runs: &mut Vec<(u32, u32)>, number: u32) -> Result<(), NoMemory>
     requires { number < 65536 }
     ensures { (numbers : List ℕ) → runs.old.items ≡ runs_of numbers →

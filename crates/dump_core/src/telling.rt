@@ -13,8 +13,8 @@ use page_core::NoMemory;
 use page_states::{PageFlags, entry};
 use std::alloc::Global;
 
-/// The runs of page frames that go into the core file of a dump, ascending: the first page frame of each, and how many
-/// it has.
+/// Returns the runs of page frames that go into the core file of a dump, in ascending order: the first page frame of
+/// each, and the number of its page frames.
 pub fn told_runs(alloc: Global, dump: &Dump) -> Result<Vec<(u32, u32)>, NoMemory>
     requires { length dump.now.frames ≡ top dump.now.hw.zones }
     ensures { IfOk result (λ runs. runs.items ≡ told_runs dump.now.hw dump.now.frames) }
@@ -43,13 +43,13 @@ fn add_zone(dump: &Dump, zone: (u32, u32), runs: &mut Vec<(u32, u32)>) -> Result
     Ok(())
 }
 
-/// Whether a valid page frame goes into the core file: it is in use, or holds a byte other than zero.
+/// Returns whether a valid page frame goes into the core file: it is in use, or holds a byte other than zero.
 fn is_told(dump: &Dump, p: u32) -> bool
     requires size { length dump.now.frames ≡ top dump.now.hw.zones }
     requires valid { Contains (numbers dump.now.hw.zones) p }
     ensures { result ≡ is_told dump.now.hw dump.now.frames p }
 {
-    // Only what is read is known to be hardware.
+    // Reading a field tells the prover the hardware invariant.
     let _ = dump.hw.zones();
     let (flags, _) = entry(&dump.frames, dump.hw.frame_table(), p);
     !flags.intersects(PageFlags::FREE) || !dump.frames.is_zero(p)

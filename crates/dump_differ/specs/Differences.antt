@@ -11,22 +11,22 @@ use Rattle.dump_differ.specs.declared.Difference.TheVariants.{Hardware, Saveable
 abbrev pub IsSaveable : Dump → ℕ → Type 0
 IsSaveable d p = Contains (plain.saveable d.hw d.frames) p
 
--- it is so in one of two alone
+-- page frame p is saveable in only one of two dumps
 abbrev pub IsOfOneAlone : Dump → Dump → ℕ → Type 0
 IsOfOneAlone a b p = (IsSaveable a p × (IsSaveable b p → ⊥)) ⊎ ((IsSaveable a p → ⊥) × IsSaveable b p)
 
--- it is so in both, with another page in each
+-- page frame p is saveable in both, with different pages
 pub record HasTwoPages (a b : Dump) (p : ℕ) : Type 0 where
   pub first : IsSaveable a p
   pub second : IsSaveable b p
   pub other : frame b.frames p ≢ frame a.frames p
 
--- two dumps agree at page frame p: it is saveable in both or in none, and where it is it has the same page
+-- two dumps agree at page frame p: it is saveable in both or in neither, and if it is saveable it has the same page
 pub record AgreeAt (a b : Dump) (p : ℕ) : Type 0 where
   pub saveable : IsSaveable a p ↔ IsSaveable b p
   pub page : IsSaveable a p → frame b.frames p ≡ frame a.frames p
 
--- so they do at each page frame, and at each below p
+-- two dumps agree at each page frame, or at each below p
 abbrev pub AgreeEverywhere : Dump → Dump → Type 0
 AgreeEverywhere a b = (p : ℕ) → AgreeAt a b p
 
@@ -45,8 +45,8 @@ IsDifferenceAt a b p Hardware = ⊥
 IsDifferenceAt a b p (Saveable q) = (q ≡ p) × IsOfOneAlone a b p
 IsDifferenceAt a b p (Page q) = (q ≡ p) × HasTwoPages a b p
 
--- Their first difference: the hardware, or else the first page frame, ascending, that is saveable in one alone or has
--- two pages.
+-- The first difference of two dumps: the hardware, or else the lowest page frame that is saveable in only one or has
+-- different pages.
 abbrev pub IsFirst : Dump → Dump → Difference → Type 0
 IsFirst a b Hardware = b.hw ≢ a.hw
 IsFirst a b (Saveable p) = (b.hw ≡ a.hw) × AgreeBelow a b p × IsOfOneAlone a b p

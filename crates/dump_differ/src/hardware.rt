@@ -2,7 +2,7 @@ ghost use Rattle.std.specs.Prelude.{◌≡◌, ◌↔◌, IsTrue};
 
 use machine::Hardware;
 
-/// Whether two machines have the same hardware.
+/// Returns whether two machines have the same hardware.
 pub(crate) fn is_same(first: &Hardware, second: &Hardware) -> bool
     ensures { IsTrue result ↔ (second.now ≡ first.now) }
 {

@@ -1,5 +1,5 @@
-//! Where two dumps differ first: in their hardware, in which page frames are saveable, or in a saveable page frame's
-//! page.
+//! The first difference of two dumps: in their hardware, in which page frames are saveable, or in the page of a
+//! saveable page frame.
 #![tactic(auto)]
 
 mod hardware;
@@ -14,18 +14,18 @@ use hardware::is_same;
 use machine::Dump;
 use saveable::{View, saveable};
 
-/// In what two dumps differ first.
+/// The first difference of two dumps.
 #[derive(Clone, Copy)]
 pub enum Difference {
     Hardware,
-    /// This page frame is saveable in one of them alone.
+    /// This page frame is saveable in only one of them.
     Saveable(u32),
-    /// This page frame is saveable in both, with another page in each.
+    /// This page frame is saveable in both, with different pages.
     Page(u32),
 }
 
-/// The first difference of two dumps: in their hardware, or else at the first page frame, ascending, that tells them
-/// apart. What a page frame holds that isn't saveable is none.
+/// Returns the first difference of two dumps: in their hardware, or else at the lowest page frame that tells them
+/// apart. The contents of a page frame that isn't saveable don't count.
 pub fn first_difference(first: &Dump, second: &Dump) -> Option<Difference>
     requires first { length first.now.frames ≡ top first.now.hw.zones }
     requires second { length second.now.frames ≡ top second.now.hw.zones }
@@ -39,7 +39,7 @@ pub fn first_difference(first: &Dump, second: &Dump) -> Option<Difference>
     }
 }
 
-/// The first page frame, ascending, that tells two dumps of the same hardware apart.
+/// Returns the lowest page frame that tells two dumps of the same hardware apart.
 fn first_in_frames(first: &Dump, second: &Dump) -> Option<Difference>
     requires hardware { second.now.hw ≡ first.now.hw }
     requires first { length first.now.frames ≡ top first.now.hw.zones }
@@ -59,7 +59,7 @@ fn first_in_frames(first: &Dump, second: &Dump) -> Option<Difference>
     None
 }
 
-/// What tells two dumps apart at a page frame.
+/// Returns what tells two dumps apart at a page frame.
 fn difference_at(first: &Dump, second: &Dump, p: u32) -> Option<Difference>
     requires first_size { length first.now.frames ≡ top first.now.hw.zones }
     requires second_size { length second.now.frames ≡ top second.now.hw.zones }
@@ -78,7 +78,7 @@ fn difference_at(first: &Dump, second: &Dump, p: u32) -> Option<Difference>
     None
 }
 
-/// What tells the saveable page frames of a dump.
+/// Returns the view that says which page frames of a dump are saveable.
 fn view_of<'a>(dump: &'a Dump) -> View<'a>
     requires { length dump.now.frames ≡ top dump.now.hw.zones }
     ensures frames { result.frames.now ≡ dump.now.frames }

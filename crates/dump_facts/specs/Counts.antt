@@ -1,4 +1,4 @@
--- What is counted of a machine's memory.
+-- What is counted in a machine's memory.
 use Rattle.std.specs.Prelude.{ℕ, ◌==◌, ◌&&◌, Bool, not, List, filter}
 use Rattle.std.specs.List.{range_with_len}
 use Rattle.definitions.specs.Tables.{frame, owner_of}
@@ -21,7 +21,7 @@ is_of h m (OwnedBy t) p = owner_of (frame_entry h m p) == t
 abbrev pub frames_of : Hardware → Memory → Kind → List ℕ
 frames_of h m kind = filter (is_of h m kind) (numbers h.zones)
 
--- a slot's entry as it is seen: a slot of the image counts as free
+-- a slot's entry as it is counted: a slot of the image counts as free
 abbrev pub seen : SlotEntry → SlotEntry
 seen Free = Free
 seen (Task t) = Task t

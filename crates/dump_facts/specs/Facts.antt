@@ -30,7 +30,7 @@ layout_facts h =
     (fact.Slots h.slots ∷ fact.FrameTable h.frame_table ∷ fact.SlotTable h.slot_table ∷ [])
     ++ map zone_fact h.zones ++ map region_fact h.regions ++ map extent_fact h.extents
 
--- what images are tied to
+-- the identity that images are tied to
 abbrev pub name_fact : Ident → ℕ → Name → Fact
 name_fact ident j key = fact.Name key (slice_index_or ident.names j [])
 
@@ -40,7 +40,7 @@ identity_facts h =
     ∷ name_fact h.ident 0 name.Sysname ∷ name_fact h.ident 1 name.Nodename ∷ name_fact h.ident 2 name.Release
     ∷ name_fact h.ident 3 name.Version ∷ name_fact h.ident 4 name.Machine ∷ name_fact h.ident 5 name.Domainname ∷ []
 
--- each task that has some, with how many they are
+-- a fact about a number, unless the number is 0
 abbrev pub if_some : ℕ → Fact → List Fact
 if_some n f = if n == 0 then [] else f ∷ []
 
@@ -57,21 +57,21 @@ owned_frames h m = owned_by fact.OwnedFrames (λ t. length (frames_of h m (Owned
 abbrev pub owned_slots : Hardware → Memory → List Fact
 owned_slots h m = owned_by fact.OwnedSlots (λ t. length (slots_of h m t)) tasks
 
--- Page frames: those that are saveable or free, and how many must be free for a hibernation (enough_free_mem), and the
--- tasks'.
+-- Page frames: how many are saveable or free, how many must be free for a hibernation (enough_free_mem), and those of
+-- the tasks.
 abbrev pub frame_facts : Hardware → Memory → List Fact
 frame_facts h m =
     (fact.SaveableFrames (length (saveable h m)) ∷ fact.FreeFrames (length (unused h m))
     ∷ fact.NeededFrames (length (saveable h m) + 1025) ∷ [])
     ++ owned_frames h m
 
--- slots: those that are free or bad, and the tasks'
+-- slots: how many are free or bad, and those of the tasks
 abbrev pub slot_facts : Hardware → Memory → List Fact
 slot_facts h m =
     (fact.FreeSlots (length (unused_slots h m)) ∷ fact.BadSlots (length (slots_of h m bad_slot)) ∷ [])
     ++ owned_slots h m
 
--- What an image of n page frames takes, d of them with data: the pages of its stream, and how many slots must be free
+-- What an image of n page frames takes, d of which have data: the pages of its stream, and how many slots must be free
 -- for a hibernation (enough_swap).
 abbrev pub image_facts : Format → ℕ → ℕ → List Fact
 image_facts f n d = fact.Image f n d (d + meta_of n + 1) ∷ fact.NeededSlots f (d + meta_of n + 1 + 1026) ∷ []

@@ -19,11 +19,11 @@ pub enum Kind {
     Saveable,
     /// Saveable, and not all zero.
     WithData,
-    /// A task's.
+    /// Owned by this task.
     OwnedBy(u16),
 }
 
-/// How many page frames are of a kind.
+/// Returns how many page frames are of a kind.
 pub(crate) fn count_frames(dump: &Dump, kind: Kind) -> u32
     requires { length dump.now.frames ≡ top dump.now.hw.zones }
     ensures count { result ≡ length (frames_of dump.now.hw dump.now.frames kind) }
@@ -36,7 +36,7 @@ pub(crate) fn count_frames(dump: &Dump, kind: Kind) -> u32
     total
 }
 
-/// How many page frames of a zone are of a kind.
+/// Returns how many page frames of a zone are of a kind.
 fn count_in_zone(dump: &Dump, kind: Kind, zone: (u32, u32)) -> u32
     requires size { length dump.now.frames ≡ top dump.now.hw.zones }
     requires zone { IsZone zone }
@@ -53,13 +53,13 @@ fn count_in_zone(dump: &Dump, kind: Kind, zone: (u32, u32)) -> u32
     total
 }
 
-/// Whether a page frame is of a kind.
+/// Returns whether a page frame is of a kind.
 fn is_of(dump: &Dump, kind: Kind, p: u32) -> bool
     requires size { length dump.now.frames ≡ top dump.now.hw.zones }
     requires valid { Contains (numbers dump.now.hw.zones) p }
     ensures { result ≡ is_of dump.now.hw dump.now.frames kind p }
 {
-    // Only what is read is known to be hardware.
+    // Reading a field tells the prover the hardware invariant.
     let _ = dump.hw.zones();
     match kind {
         Kind::Saveable => is_saveable(dump, p),
@@ -68,7 +68,7 @@ fn is_of(dump: &Dump, kind: Kind, p: u32) -> bool
     }
 }
 
-/// Whether a valid page frame is saveable.
+/// Returns whether a valid page frame is saveable.
 fn is_saveable(dump: &Dump, p: u32) -> bool
     requires size { length dump.now.frames ≡ top dump.now.hw.zones }
     requires valid { Contains (numbers dump.now.hw.zones) p }
@@ -82,7 +82,7 @@ fn is_saveable(dump: &Dump, p: u32) -> bool
     saveable(&view, p)
 }
 
-/// How many page frames are free.
+/// Returns how many page frames are free.
 pub(crate) fn count_free_frames(dump: &Dump) -> u32
     requires { length dump.now.frames ≡ top dump.now.hw.zones }
     ensures { result ≡ length (unused dump.now.hw dump.now.frames) }
@@ -94,7 +94,7 @@ pub(crate) fn count_free_frames(dump: &Dump) -> u32
     })
 }
 
-/// How many slots have this entry, as it is seen.
+/// Returns how many slots have this entry, as it is counted.
 pub(crate) fn count_slots(dump: &Dump, entry: SlotEntry) -> u32
     requires size { length dump.now.frames ≡ top dump.now.hw.zones }
     requires entry { entry_of_word (word_of entry) ≡ entry }
@@ -110,14 +110,14 @@ pub(crate) fn count_slots(dump: &Dump, entry: SlotEntry) -> u32
     total
 }
 
-/// Whether a slot with an entry counts among those with another.
+/// Returns whether a slot with an entry counts among those with another.
 fn is_seen_as(entry: SlotEntry, other: SlotEntry) -> bool
     ensures { IsTrue result ↔ (seen entry ≡ other) }
 {
     seen(entry) == other
 }
 
-/// A slot's entry as it is seen.
+/// Returns a slot's entry as it is counted.
 fn seen(entry: SlotEntry) -> SlotEntry
     ensures { result ≡ seen entry }
 {

@@ -4,10 +4,10 @@ use crate::fact::Fact;
 use arrayvec::ArrayVec;
 use std::marker::Model;
 
-/// At most so many facts: 16 zones, 64 regions, 64 extents, 64 tasks with page frames and 64 with slots, and 20 more.
+/// The most facts: 16 zones, 64 regions, 64 extents, 64 tasks with page frames and 64 with slots, and 20 more.
 const MOST_FACTS: usize = 292;
 
-/// The facts of a dump. A contract sees the list of them.
+/// The facts of a dump. A contract sees them as a list.
 #[derive(Drop)]
 pub struct Facts {
     facts: ArrayVec<Fact, MOST_FACTS>,

@@ -1,5 +1,5 @@
-//! What a dump says of its machine, as a list of facts: the hardware, who has the page frames and the slots, and what a
-//! hibernation would take.
+//! What a dump says of its machine, as a list of facts: the hardware, the owners of the page frames and the slots, and
+//! what a hibernation would take.
 #![tactic(auto)]
 
 mod counting;
@@ -18,7 +18,7 @@ use layout::{add_identity, add_layout};
 use machine::Dump;
 use memory::{add_frames, add_images, add_slots};
 
-/// The facts of a dump.
+/// Returns the facts of a dump.
 #[tactic(auto, unfolding(crate::specs::Facts::facts_of))]
 pub fn facts_of(dump: &Dump) -> Facts
     requires { length dump.now.frames ≡ top dump.now.hw.zones }

@@ -10,10 +10,10 @@ use machine::Dump;
 use page_core::Format;
 use swap_slots::SlotEntry;
 
-/// A hibernation leaves so many page frames free beside its copies (PAGES_FOR_IO, and one more).
+/// The number of page frames that a hibernation leaves free besides its copies (PAGES_FOR_IO, and one more).
 const SPARE_FRAMES: u32 = 1025;
 
-/// A hibernation leaves so many slots free beside its pages: as many, and one for the first map.
+/// The number of slots that a hibernation leaves free besides its pages: as many, and one for the first map.
 const SPARE_SLOTS: u32 = 1026;
 
 /// Adds what a dump says of page frames.
@@ -32,7 +32,7 @@ pub(crate) fn add_frames(facts: &mut Facts, dump: &Dump)
     add_owned_frames(facts, dump);
 }
 
-/// Adds the tasks that have page frames, each with how many they are.
+/// Adds the tasks that have page frames, each with the number of its page frames.
 fn add_owned_frames(facts: &mut Facts, dump: &Dump)
     requires size { length dump.now.frames ≡ top dump.now.hw.zones }
     requires room { length facts.old ≤ 158 }
@@ -62,7 +62,7 @@ pub(crate) fn add_slots(facts: &mut Facts, dump: &Dump)
     add_owned_slots(facts, dump);
 }
 
-/// Adds the tasks that have slots, each with how many they are.
+/// Adds the tasks that have slots, each with the number of its slots.
 fn add_owned_slots(facts: &mut Facts, dump: &Dump)
     requires size { length dump.now.frames ≡ top dump.now.hw.zones }
     requires room { length facts.old ≤ 224 }
@@ -89,7 +89,7 @@ pub(crate) fn add_images(facts: &mut Facts, dump: &Dump)
     add_image(facts, Format::SkipZeros, saveable, with_data);
 }
 
-/// Adds what an image in a format would take that saves `n` page frames, `d` of them with data.
+/// Adds what an image in a format would take if it saved `n` page frames, `d` of which have data.
 fn add_image(facts: &mut Facts, format: Format, n: u32, d: u32)
     requires room { length facts.old ≤ 290 }
     requires few_saved { n ≤ 65536 }
@@ -104,7 +104,7 @@ fn add_image(facts: &mut Facts, format: Format, n: u32, d: u32)
     ]);
 }
 
-/// How many pages a stream has with the numbers of `n` page frames and the pages of `d`.
+/// Returns how many pages a stream has with the numbers of `n` page frames and the pages of `d`.
 fn pages_of(n: u32, d: u32) -> u32
     requires few_saved { n ≤ 65536 }
     requires few_with_data { d ≤ 65536 }

@@ -1,5 +1,5 @@
--- The numbers of machines (e_machine, elf.h: EM_X86_64, EM_AARCH64, EM_386, EM_RISCV, EM_PPC64, EM_S390,
--- EM_LOONGARCH, EM_ARM) by the names that Linux has for them (`uname -m`). 0 is EM_NONE.
+-- The numbers of machines (e_machine, elf.h: EM_X86_64, EM_AARCH64, EM_386, EM_RISCV, EM_PPC64, EM_S390, EM_LOONGARCH,
+-- EM_ARM) by the names that Linux has for them (`uname -m`). 0 is EM_NONE.
 use Rattle.std.specs.Prelude.{ℕ, ◌||◌, Bool, List, take, nat_eq, codes, if◌then◌else◌}
 use Rattle.std.specs.Cmp.Lexicographic.{pointwise}
 

@@ -1,4 +1,4 @@
--- Numbers of an ELF file of the encoding ELFDATA2LSB (System V gABI, "Data Representation").
+-- Numbers of an ELF file in the encoding ELFDATA2LSB (System V gABI, "Data Representation").
 use Rattle.std.specs.Prelude.{ℕ, List}
 use Rattle.std.specs.Int.{to_le_bytes, w16, w32, w64}
 

@@ -19,17 +19,17 @@ const PT_NOTE: u32 = 4;
 /// PF_R, PF_W and PF_X.
 const ALL_FLAGS: u32 = 7;
 
-/// What `e_phnum` has where the section header has the number of program headers.
+/// The value of `e_phnum` if the section header has the number of program headers.
 const PN_XNUM: u16 = 0xffff;
 
-/// The sizes of the structures, in bytes.
+/// The sizes of the structures in bytes.
 const FILE_HEADER: u16 = 64;
 
 const PROGRAM_HEADER: u16 = 56;
 
 const SECTION_HEADER: u16 = 64;
 
-/// The note with its name and its descriptor, and where the section header begins after that.
+/// The size of the note with its name and its descriptor, and the size with the zeros before the section header.
 const NOTE: u64 = 420;
 
 const NOTE_ROOM: u64 = 424;
@@ -38,7 +38,7 @@ const SECTION_ROOM: u64 = 68;
 
 const PAGE: u64 = 4096;
 
-/// The file header of a core of so many runs.
+/// Returns the file header of a core file with `runs` runs.
 #[tactic(auto, unfolding(crate::specs::Elf::file_header_bytes))]
 pub fn file_header(machine: u16, runs: u32) -> Piece
     ensures { result ≡ file_header_bytes machine runs }
@@ -61,7 +61,7 @@ pub fn file_header(machine: u16, runs: u32) -> Piece
     piece
 }
 
-/// The program header of a run of page frames, whose pages lie from a place on.
+/// Returns the program header of a run of page frames whose pages lie from `offset` on.
 #[tactic(auto, unfolding(crate::specs::Elf::load_bytes))]
 pub fn load(offset: u64, first: u64, count: u64) -> Piece
     requires first { first < 2 ^ 52 }
@@ -80,7 +80,7 @@ pub fn load(offset: u64, first: u64, count: u64) -> Piece
     piece
 }
 
-/// The program header of the note.
+/// Returns the program header of the note.
 #[tactic(auto, unfolding(crate::specs::Elf::note_header_bytes))]
 pub fn note_header(runs: u32) -> Piece
     ensures { result ≡ note_header_bytes runs }
@@ -97,7 +97,7 @@ pub fn note_header(runs: u32) -> Piece
     piece
 }
 
-/// Where the first page lies.
+/// Returns the place of the first page.
 pub fn page_offset(runs: u32) -> u64
     ensures place { result ≡ page_offset runs }
     ensures far { result < 2 ^ 40 }
@@ -105,7 +105,7 @@ pub fn page_offset(runs: u32) -> u64
     head_size(runs).div_ceil(PAGE) * PAGE
 }
 
-/// How many zeros lie in front of the first page.
+/// Returns the number of zeros before the first page.
 pub fn padding(runs: u32) -> usize
     ensures count { result ≡ padding runs }
     ensures few { result < 4096 }
@@ -113,7 +113,7 @@ pub fn padding(runs: u32) -> usize
     (page_offset(runs) - head_size(runs)) as usize
 }
 
-/// Whether `e_phnum` can't hold the number of program headers.
+/// Returns whether `e_phnum` can't hold the number of program headers.
 pub(crate) fn is_many(runs: u32) -> bool
     ensures { result ≡ is_many runs }
 {
@@ -159,7 +159,7 @@ fn note_offset(runs: u32) -> u64
     u64::from(FILE_HEADER) + u64::from(PROGRAM_HEADER) * (u64::from(runs) + 1)
 }
 
-/// Where the note and the section header end.
+/// Returns the end of the note and the section header.
 fn head_size(runs: u32) -> u64
     ensures size { result ≡ head_size runs }
     ensures far { result < 2 ^ 39 }

@@ -21,7 +21,7 @@ const LOONGARCH: u16 = 258;
 /// EM_NONE.
 const NONE: u16 = 0;
 
-/// The number of the machine that Linux calls so (`machine` of `struct new_utsname`).
+/// Returns the number of the machine that Linux calls by this name (`machine` of `struct new_utsname`).
 pub fn machine_of_name(name: &[u8]) -> u16
     ensures { result ≡ machine_of_name name.now }
 {

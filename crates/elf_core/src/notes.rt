@@ -4,13 +4,13 @@ ghost use Rattle.elf_core.specs.Elf.{note_bytes, section_bytes};
 use crate::headers::is_many;
 use crate::pieces::Piece;
 
-/// How many bytes the note's name has, with its end. It is filled to a multiple of 4.
+/// The number of bytes of the note's name with its zero byte. It is filled to a multiple of 4.
 const NAME_SIZE: u32 = 9;
 
-/// How many bytes tell an identity.
+/// The number of bytes of an identity.
 const IDENTITY_SIZE: u32 = 396;
 
-/// The note, which tells an identity.
+/// Returns the note, which holds an identity.
 #[tactic(auto, unfolding(crate::specs::Elf::note_bytes))]
 pub fn note(identity: &[u8]) -> Piece
     requires { length identity.now ≡ 396 }
@@ -26,7 +26,7 @@ pub fn note(identity: &[u8]) -> Piece
     piece
 }
 
-/// The section header, which has the number of program headers where the file header can't hold it.
+/// Returns the section header, which has the number of program headers if the file header can't hold it.
 #[tactic(auto, unfolding(crate::specs::Elf::section_bytes))]
 pub fn section(runs: u32) -> Piece
     requires { runs + 1 < 2 ^ 32 }

@@ -4,7 +4,7 @@ ghost use Rattle.elf_core.specs.Numbers.{half, word, xword};
 use arrayvec::ArrayVec;
 use std::marker::Model;
 
-/// Some bytes of a file, in a buffer of 512. A contract sees the list of them.
+/// Some bytes of a file, in a buffer of 512. A contract sees them as a list.
 #[derive(Drop)]
 pub struct Piece {
     bytes: ArrayVec<u8, 512>,

@@ -10,7 +10,7 @@ use Rattle.image_cli.specs.Json.{PrintsCheck, TellsCheck}
 use Rattle.image_units.specs.declared.index.Index.{Index}
 use Rattle.expanded_cli.specs.Runs.{RunsAny, RunsExpanded}
 
--- what is wrong with the first that is wrong with a compressed image, or else with the plain one that it expands to
+-- the first fault of a compressed image, or else what is wrong with the plain one that it expands to
 abbrev pub ChecksAny : Option Content → (blocks header before now : ℕ) → Status → (out out' note note' : SinkView) →
     Type 0
 ChecksAny content blocks header before now status out out' note note' =

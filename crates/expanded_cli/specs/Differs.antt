@@ -15,7 +15,7 @@ use Rattle.image_differ.specs.declared.side.Which.TheVariants.{First, Second}
 use Rattle.sector_disk.specs.declared.orders.Order.{Order}
 use Rattle.expanded_cli.specs.Runs.{RunsAny}
 
--- a side whose disk holds this, and whose header lies in this block
+-- a side whose disk holds this content, and whose header lies in this block
 abbrev pub read_as : Option Content → (blocks header faults : ℕ) → List Order → Told → SideView
 read_as content blocks header faults orders told = record {
   content = content;
@@ -26,20 +26,20 @@ read_as content blocks header faults orders told = record {
   told = told;
 }
 
--- what is wrong with a compressed image was told on its side, and nothing on the other: the images aren't compared
+-- the fault of a compressed image was reported on its side, and nothing on the other: the images aren't compared
 pub record IsUncompared (which : Which) (found : List Finding) (told told' other other' : Told) (status : Status)
     (out out' note note' : SinkView) : Type 0 where
   pub tells : Tells found told told'
   pub untold : other' ≡ other
   pub ends : IsTold (unopened_told (opened.Refused which)) status out out' note note'
 
--- nothing was told on either side, and memory was refused
+-- nothing was reported on either side, and memory was refused
 abbrev pub LacksMemory : (told told' other other' : Told) → Status → (out out' note note' : SinkView) → Type 0
 LacksMemory told told' other other' status out out' note note' =
     (told' ≡ told) × (other' ≡ other) × IsTold memory_told status out out' note note'
 
--- The first image is compared with the second one, or with the plain image that this expands to. What a disk
--- was asked for beside its reads says nothing of an image.
+-- The first image is compared with the second one, or with the plain image that the second expands to. What else a disk
+-- was asked for, besides reads, says nothing of an image.
 abbrev pub DiffersFrom : Bool → (a a' : SideView) → (told told' : Told) → Status →
     (out out' note note' : SinkView) → Option Content → (blocks header before now : ℕ) → Type 0
 DiffersFrom first_only a a' told told' status out out' note note' c n h b f =
@@ -53,8 +53,8 @@ DiffersSecond first_only a a' b b' status out out' note note' =
     (LacksMemory a.told a'.told b.told b'.told status out out' note note')
     b.content b.blocks b.header b.faults b'.faults
 
--- The images are compared as `Differs` says, where of a compressed one the plain image is taken that it expands to. It
--- is read whole before, the first side's before the second side's.
+-- The images are compared as `Differs` says, with the plain image that a compressed one expands to in its place. A
+-- compressed image is read whole before, the first side's before the second side's.
 abbrev pub DiffersOver : Bool → (told told' : Told) → (b b' : SideView) → Status →
     (out out' note note' : SinkView) → Option Content → (blocks header before now : ℕ) → Type 0
 DiffersOver first_only told told' b b' status out out' note note' c n h t f =

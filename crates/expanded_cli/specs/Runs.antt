@@ -8,9 +8,9 @@ use Rattle.image_units.specs.declared.index.Index.{Index}
 use Rattle.expanded_disk.specs.Keeps.{FailsWith}
 use Rattle.expanded_disk.specs.Laid.{blocks_for, expanded}
 
--- An image that isn't compressed is taken as it is. Of a compressed one the first that is wrong with its header, its
--- info page or its units is told; where nothing is, the plain image is taken that it expands to, whose header is block
--- 0 of a disk of its own. Memory may be refused before that.
+-- An image that isn't compressed is used as it is. Of a compressed one, the first fault of its header, its info page or
+-- its units is reported; if there is none, the plain image that it expands to is used, whose header is block 0 of a
+-- disk of its own. Memory may be refused before that.
 pub data RunsAny (Runs : Option Content → (blocks header before now : ℕ) → Type 0) (Refuses : List Finding → Type 0)
     (LacksMemory : Type 0) (content : Option Content) (blocks header before now : ℕ) : Type 0 where
   plain : (then : ℕ) → before ≤ then → IsPlain content blocks header → Runs content blocks header then now →
@@ -22,7 +22,7 @@ pub data RunsAny (Runs : Option Content → (blocks header before now : ℕ) →
       RunsAny Runs Refuses LacksMemory content blocks header before now
   no_memory : LacksMemory → RunsAny Runs Refuses LacksMemory content blocks header before now
 
--- what is done with the plain image alone
+-- only what is done with the plain image
 pub data RunsExpanded (Runs : Option Content → (blocks header before now : ℕ) → Type 0) (LacksMemory : Type 0)
     (content : Option Content) (header : ℕ) (index : Index) (before now : ℕ) : Type 0 where
   ran : (faults : ℕ) → FailsWith content before now faults →

@@ -1,5 +1,5 @@
--- What `stream`, `page` and `core` write and note of an image that may be compressed. Of one with a fault nothing is
--- written: the first that is wrong is noted.
+-- What `stream`, `page` and `core` write and note of an image that may be compressed. If it has a fault, nothing is
+-- written, and the first fault is noted.
 use Rattle.std.specs.Prelude.{ℕ, List, [], Option}
 use Rattle.definitions.specs.Disk.{Content}
 use Rattle.command_kit.specs.Told.{memory_told}
@@ -15,7 +15,7 @@ use Rattle.image_cli.specs.Streams.{Streams, refused_told}
 use Rattle.image_units.specs.declared.index.Index.{Index}
 use Rattle.expanded_cli.specs.Runs.{RunsAny, RunsExpanded}
 
--- findings were noted, and that is all
+-- findings were noted, and nothing else happened
 pub record NotesFindings (found : List Finding) (told : Told) (status : Status)
     (out out' note' : SinkView) : Type 0 where
   pub after : Told

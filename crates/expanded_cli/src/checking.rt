@@ -19,9 +19,9 @@ use sector_disk::Disk;
 use std::alloc::Global;
 use std::marker::Brand;
 
-/// Prints what is wrong with the image of the area whose header lies in a block, as `image_cli::check` does. A
-/// compressed one is read whole first, up to the first that is wrong with its header, its info page, its units or its
-/// checksum; where nothing is, the plain image that it expands to is checked. The disk is only read.
+/// Prints what is wrong with the image of the area whose header lies in block `header`, as `image_cli::check` does. A
+/// compressed image is read whole first, up to the first fault of its header, its info page, its units or its checksum;
+/// if there is none, the plain image that it expands to is checked. The disk is only read.
 pub fn check<D: Disk, O: Sink, N: Sink>(
     alloc: Global,
     disk: &mut D,
@@ -97,7 +97,7 @@ fn check_expanded<B: Walks + Drop, K: Original, O: Sink, N: Sink>(
     }
 }
 
-/// Prints the same as one JSON object, in a line, as `image_cli::check_json` does. The disk is only read.
+/// Prints the same as one JSON object on a line, as `image_cli::check_json` does. The disk is only read.
 pub fn check_json<D: Disk, O: Sink, N: Sink>(
     alloc: Global,
     disk: &mut D,

@@ -23,8 +23,9 @@ use std::alloc::Global;
 use std::marker::Brand;
 
 /// Prints where the images of two areas differ, as `image_cli::differ` does. A compressed one is read whole first, that
-/// of the first side before that of the second: what is wrong with it is told on its side, and nothing is compared.
-/// Else the plain image that it expands to is compared. Both sides are given back, and both disks are only read.
+/// of the first side before that of the second. If it has a fault, that is reported on its side, and nothing is
+/// compared; otherwise the plain image that it expands to is compared. Both sides are given back, and both disks are
+/// only read.
 pub fn differ<D: Disk, E: Disk, R: Report, Q: Report, O: Sink, N: Sink>(
     alloc: Global,
     first: Side<D, R>,
@@ -80,7 +81,7 @@ pub fn differ<D: Disk, E: Disk, R: Report, Q: Report, O: Sink, N: Sink>(
     }
 }
 
-/// The side of a disk that was only read.
+/// Returns the side of a disk that was only read.
 fn given_back<D: Disk, R: Report>(side: Side<Owned<D>, R>) -> Side<D, R>
     ensures disk { result.disk ≡ side.disk.disk }
     ensures report { result.report ≡ side.report }

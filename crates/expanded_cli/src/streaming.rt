@@ -20,8 +20,8 @@ use sector_disk::Disk;
 use std::alloc::Global;
 use std::marker::Brand;
 
-/// Writes the image of the area whose header lies in a block as a stream, as `image_cli::stream` does. A compressed one
-/// is read whole first: what is wrong with it is noted, and nothing is written. The disk is only read.
+/// Writes the image of the area whose header lies in block `header` as a stream, as `image_cli::stream` does. A
+/// compressed one is read whole first: if it has a fault, that is noted, and nothing is written. The disk is only read.
 pub fn stream<D: Disk, O: Sink, N: Sink>(
     alloc: Global,
     disk: &mut D,
@@ -170,7 +170,7 @@ fn page_expanded<B: Walks + Drop, K: Original, O: Sink, N: Sink>(
     }
 }
 
-/// Nothing more is told.
+/// Returns a refusal without a further note.
 pub(crate) fn refused() -> Answer
     ensures told { told_by result ≡ refused_told [] }
     ensures status { result.status ≡ Status.Refused }

@@ -1,5 +1,5 @@
 -- The plain image that a compressed one is expanded to, on a disk of its own: the header in block 0, and then its chain
--- laid out one after the other: a map, its 511 pages, the next map, and so on (swap_write_page, kernel/power/swap.c).
+-- laid out in order: a map, its 511 pages, the next map, and so on (swap_write_page, kernel/power/swap.c).
 use Rattle.std.specs.Prelude.{ℕ, ◌+◌, ◌-◌, ◌*◌, ◌/◌, ◌%◌, ◌==◌, nat_lt, if◌then◌else◌, List, take, drop, map}
 use Rattle.std.specs.Prelude.{Option, None, Some}
 use Rattle.std.specs.List.{range_with_len}
@@ -14,14 +14,14 @@ use Rattle.sector_disk.specs.Recorded.{after}
 use Rattle.sector_disk.specs.declared.recorded.Recorded.TheVariants.{Write}
 use Rattle.expanded_disk.specs.declared.refused.Refused.{Refused}
 
--- how many maps and how many blocks an image of so many pages takes
+-- how many maps and how many blocks an image with the given number of pages takes
 abbrev pub maps_for : ℕ → ℕ
 maps_for pages = (pages + 510) / 511
 
 abbrev pub blocks_for : ℕ → ℕ
 blocks_for pages = 1 + pages + maps_for pages
 
--- word i of map m: the block of its entry i, or of the next map behind the entries; 0 where there is none
+-- word i of map m: the block of its entry i, or, after the entries, the block of the next map; 0 if there is none
 abbrev pub map_word : (pages m i : ℕ) → ℕ
 map_word pages m i =
     if i == 511 then (if nat_lt (511 * m + 511) pages then 512 * m + 513 else 0)
@@ -36,8 +36,8 @@ plain_flags_of flags =
     let compressed = if flags / 2 % 2 == 0 then flags + 2 else flags in
     if flags / 4 % 2 == 1 then compressed - 4 else compressed
 
--- The header block: that of the area, but for the last page, which is the last block, the bad pages, of which there are
--- none, the first map, and the flags.
+-- The header block: that of the area, except for the last page, which is the last block, the bad pages, of which there
+-- are none, the first map, and the flags.
 unfoldable pub plain_header : List ℕ → ℕ → List ℕ
 plain_header page pages =
     let sized = with_number 4 (with_number 4 page 1028 (blocks_for pages - 1)) 1032 0 in
@@ -56,11 +56,11 @@ laid_block header page pages b =
     else if (b - 1) % 512 == 0 then laid_map pages ((b - 1) / 512)
     else page (511 * ((b - 1) / 512) + (b - 1) % 512 - 1)
 
--- so many blocks as a disk
+-- the first n blocks as a disk
 unfoldable pub image_of_blocks : (ℕ → List ℕ) → ℕ → DiskImage
 image_of_blocks block_at n = map (λ s. sector_bytes (block_at (s / 8)) (s % 8)) (range_with_len 0 (8 * n))
 
--- the plain image of the compressed one whose header lies in a block of a disk that reads so
+-- the plain image of the compressed one with the given header block on a disk that reads as v
 abbrev pub plain_block : DiskImage → (header b : ℕ) → List ℕ
 plain_block v header b =
     let chain = chain_of v (first_of v header) in
@@ -71,13 +71,13 @@ abbrev pub plain_image : DiskImage → ℕ → DiskImage
 plain_image v header =
     image_of_blocks (plain_block v header) (blocks_for (pages_of_chain (chain_of v (first_of v header))))
 
--- what the expanding disk holds, where the disk below tells what it holds
+-- what the expanding disk holds, if the disk below tells what it holds
 abbrev pub expanded : ℕ → Option Content → Option Content
 expanded header None = None
 expanded header (Some held) = Some (settled (plain_image (as_it_reads held) header))
 
--- What a disk holds that refused a write: each sector of that block has the page's bytes as one more candidate. So it
--- is never what it was.
+-- What a disk holds after it refused a write: each sector of that block has the page's bytes as one more candidate. So
+-- the content is never what it was.
 abbrev pub marred : Option Refused → Option Content → Option Content
 marred None content = content
 marred (Some refused) None = None

@@ -50,7 +50,7 @@ sector-image : (f : ℕ → List ℕ) (n s : ℕ) (d : List ℕ) → s < 8 * n �
 unfolding image_of_blocks
 sector-image f n s d lt = get_or-map-range_with_len (sector_of f) 0 (8 * n) s s d lt (zero-add s)
 
--- block b of so many blocks
+-- block b of the first n blocks
 pub block-image : (f : ℕ → List ℕ) (n b : ℕ) → IsPage (f b) → b < n → block (image_of_blocks f n) b ≡ f b
 unfolding block
 block-image f n b page lt =
@@ -161,7 +161,7 @@ IsPage-plain blocks v header index is b lt =
     length (bytes_of chain n j) ≡ size_of n j) is.pages_are (λ j few. (is.units j few).size)))
     lt
 
--- one proof at most, as a ghost field wants it
+-- at most one proof exists, which a ghost field requires
 pub Agrees-prop : (wanted : Option ℕ) (found : ℕ) → IsProp (Agrees wanted found)
 Agrees-prop None found = Unit-prop
 Agrees-prop (Some n) found = hlevel props
@@ -177,7 +177,7 @@ IsContent-expanded blocks (Some held) header index indexed =
     (IsContent-image (plain_block v header) (blocks_for (pages_of_chain (chain_of v (first_of v header))))
     (IsPage-plain blocks v header index is))
 
--- after a refused write too
+-- also after a refused write
 
 pub IsContent-refused : (n : ℕ) (refused : Option Refused) (content : Option Content) → IfSome content (IsContent n) →
     IfSome (marred refused content) (IsContent n)

@@ -3,7 +3,7 @@ use Rattle.std.specs.Prelude.{◌≡◌, ℕ, ◌+◌, ◌-◌, ◌*◌, ◌/◌
 use Rattle.expanded_disk.specs.declared.laying.Part.{Part}
 use Rattle.expanded_disk.specs.declared.laying.Part.TheVariants.{Header, Map, Page}
 
--- the header, a map or a page: behind the header each map comes with its 511 pages
+-- the header, a map or a page: after the header, each map comes with its 511 pages
 abbrev pub IsPart : ℕ → Part → Type 0
 IsPart b Header = b ≡ 0
 IsPart b (Map m) = (0 < b) × ((b - 1) % 512 ≡ 0) × (m ≡ (b - 1) / 512)

@@ -16,13 +16,13 @@ use sector_disk::{Disk, Order, Orders};
 use std::alloc::Global;
 
 /// A disk whose blocks read as the plain image of a compressed one: the header in block 0, and then its chain. It keeps
-/// one unit. A read fails where the disk below does, or no longer holds what it held.
+/// one unit. A read fails if the disk below fails, or no longer holds what it held.
 ///
 /// Each write is refused, and counts as a fault. The first one shows in the content that it tells, and from then on
-/// each read and sync fails, until a restart: so whoever leaves the content and restarts nothing has written nothing.
-/// Else a sync, a restart and an arm change nothing.
+/// each read and sync fails, until a restart: so whoever leaves the content as it was, and restarts nothing, has
+/// written nothing. Otherwise a sync, a restart and an arm change nothing.
 ///
-/// It tells its content where the disk below does, and no moments.
+/// It tells its content if the disk below does, and no moments.
 #[derive(Drop)]
 pub struct ExpandedDisk<B: Walks, K: Original> {
     source: Source<B, K>,
@@ -47,7 +47,7 @@ impl<B: Walks, K: Original> ExpandedDisk<B, K> {
     ghost use Rattle.expanded_disk.specs.Keeps.{FailsWith};
     ghost use Rattle.expanded_disk.specs.Laid.{expanded};
 
-    /// A disk over one on which the header block `at` has a whole image with this index.
+    /// Makes a disk over one on which the header block `at` has a whole image with this index.
     pub fn over(
         alloc: Global,
         source: Source<B, K>,
@@ -78,8 +78,8 @@ impl<B: Walks, K: Original> ExpandedDisk<B, K> {
         })
     }
 
-    /// Gives the disk below back. Where this one still holds the plain image, and was told of no restart, its faults
-    /// are those of the disk below.
+    /// Returns the disk below. If this disk still holds the plain image, and no restart was made, any fault of it came
+    /// from the disk below.
     pub fn into_source(self) -> Source<B, K>
         ensures cause { (header : ℕ) →
             ⟦<ExpandedDisk<B, K> as Disk>⟧.content self ≡ expanded header K.state.content →

@@ -1,4 +1,4 @@
-//! The blocks that the expanding disk makes itself.
+//! The blocks that the expanding disk generates itself.
 ghost use Rattle.std.specs.Prelude.{◌≡◌, ◌<◌, ◌≤◌, ◌+◌, ◌^◌};
 ghost use Rattle.definitions.specs.Bytes.{IsPage};
 ghost use Rattle.expanded_disk.specs.Laid.{blocks_for, laid_map, map_word, plain_flags_of, plain_header};
@@ -8,13 +8,13 @@ use image_units::SF_CRC32_MODE;
 use page_core::Page;
 use sig_header::SF_NOCOMPRESS_MODE;
 
-/// How many entries a map page has (MAP_PAGE_ENTRIES), and how many words.
+/// The number of entries of a map page (MAP_PAGE_ENTRIES), and the number of its words.
 const ENTRIES: u64 = 511;
 
 const WORDS: u64 = 512;
 
-/// Where the fields of the header block lie, in bytes (`union swap_header`, include/linux/swap.h; struct swsusp_header,
-/// kernel/power/swap.c).
+/// The offsets in bytes of the fields of the header block (`union swap_header`, include/linux/swap.h; struct
+/// swsusp_header, kernel/power/swap.c).
 const LAST_PAGE: usize = 1028;
 
 const NR_BADPAGES: usize = 1032;
@@ -23,7 +23,7 @@ const IMAGE: usize = 4064;
 
 const FLAGS: usize = 4072;
 
-/// What a block of the expanded image is.
+/// The part of the expanded image that a block is.
 #[derive(Clone, Copy)]
 pub(crate) enum Part {
     Header,
@@ -33,7 +33,7 @@ pub(crate) enum Part {
     Page(u64),
 }
 
-/// What block b is.
+/// Returns which part block `b` is.
 pub(crate) fn part_of(b: u32) -> Part
     ensures { IsPart b result }
 {
@@ -49,7 +49,7 @@ pub(crate) fn part_of(b: u32) -> Part
     }
 }
 
-/// How many blocks an image of so many pages takes.
+/// Returns how many blocks an image with `pages` pages takes.
 pub(crate) fn blocks_for(pages: u64) -> u32
     requires { pages ≤ 2147483648 }
     ensures { result ≡ blocks_for pages }
@@ -57,7 +57,7 @@ pub(crate) fn blocks_for(pages: u64) -> u32
     (1 + pages + pages.div_ceil(ENTRIES)) as u32
 }
 
-/// The header block of the expanded image.
+/// Returns the header block of the expanded image.
 #[tactic(auto, unfolding(crate::specs::Laid::plain_header))]
 pub(crate) fn plain_header(header: &Page, pages: u64) -> Page
     requires { pages ≤ 2147483648 }
@@ -72,7 +72,7 @@ pub(crate) fn plain_header(header: &Page, pages: u64) -> Page
     page
 }
 
-/// The flags of an image that isn't compressed, and has no checksum.
+/// Returns the flags of an image that isn't compressed, and has no checksum.
 fn plain_flags(flags: u32) -> u32
     ensures { result ≡ plain_flags_of flags }
 {
@@ -88,7 +88,7 @@ fn plain_flags(flags: u32) -> u32
     }
 }
 
-/// A map of the expanded image, from 0.
+/// Returns a map of the expanded image, counted from 0.
 #[tactic(auto, unfolding(crate::specs::Laid::laid_map))]
 pub(crate) fn laid_map(pages: u64, map: u64) -> Page
     requires { map < 2 ^ 32 }
@@ -101,7 +101,7 @@ pub(crate) fn laid_map(pages: u64, map: u64) -> Page
     page
 }
 
-/// A word of it.
+/// Returns a word of that map.
 fn map_word(pages: u64, map: u64, word: u64) -> u64
     requires map { map < 2 ^ 32 }
     requires word { word < 512 }

@@ -1,4 +1,4 @@
-//! The pages of a compressed image, read once more by its index.
+//! The pages of a compressed image, read again through its index.
 ghost use Rattle.std.specs.Prelude.{◌≡◌, ◌+◌, ◌*◌, ◌<◌, ◌≤◌, ◌^◌, ◌++◌, true, IfSome, OnOk, OnErr, Some, drop, take};
 ghost use Rattle.definitions.specs.Disk.{as_it_reads, block};
 ghost use Rattle.image_units.specs.Index.{IsIndexOf};
@@ -17,11 +17,11 @@ use page_core::{Failed, Page};
 /// How many entries a map page has (MAP_PAGE_ENTRIES).
 const ENTRIES: u64 = 511;
 
-/// How many pages a unit has (LZO_UNC_PAGES).
+/// The number of pages of a unit (LZO_UNC_PAGES).
 const PAGES: u64 = 32;
 
-/// Reads page k of the expanded image. It fails where the disk below does, or no longer holds what it held. After a
-/// failure `into` holds any bytes.
+/// Reads page k of the expanded image. It fails if the disk below fails, or no longer holds what it held. After a
+/// failure the contents of `into` are arbitrary.
 pub(crate) fn read_page<B: Walks, K: Original>(
     source: &mut Source<B, K>,
     index: &Index,
@@ -49,7 +49,7 @@ pub(crate) fn read_page<B: Walks, K: Original>(
     Ok(())
 }
 
-/// Keeps a unit.
+/// Loads and keeps a unit, unless it is the one that is kept.
 fn keep<B: Walks, K: Original>(
     source: &mut Source<B, K>,
     index: &Index,
@@ -77,7 +77,7 @@ fn keep<B: Walks, K: Original>(
     Ok(())
 }
 
-/// Whether a unit has a number, and this one.
+/// Returns whether a unit is kept, and has this number.
 fn is_number(kept: Option<u64>, number: u64) -> bool
     ensures { result ≡ true → kept ≡ Some number }
 {
@@ -114,7 +114,7 @@ fn load<B: Walks, K: Original>(
     load_behind(source, index, unit, number, start, &page)
 }
 
-/// Reads a unit behind its first page.
+/// Reads the pages of a unit after its first one, and expands it.
 fn load_behind<B: Walks, K: Original>(
     source: &mut Source<B, K>,
     index: &Index,
@@ -146,7 +146,7 @@ fn load_behind<B: Walks, K: Original>(
     expand(unit, len as usize, size_of(index.pages, number))
 }
 
-/// Expands a unit to just so many bytes.
+/// Expands a unit to exactly `size` bytes.
 fn expand(unit: &mut Unit, len: usize, size: usize) -> Result<(), Failed>
     requires len { len ≤ 139333 }
     requires size { size ≤ 131072 }
@@ -160,7 +160,7 @@ fn expand(unit: &mut Unit, len: usize, size: usize) -> Result<(), Failed>
     }
 }
 
-/// Reads so many pages behind a unit's first one.
+/// Reads `count` pages after the first page of a unit.
 fn fill<B: Walks, K: Original>(
     source: &mut Source<B, K>,
     index: &Index,

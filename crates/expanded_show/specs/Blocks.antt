@@ -16,11 +16,11 @@ use Rattle.image_units.specs.Units.{start_of, units_of}
 use Rattle.image_units.specs.declared.index.Index.{Index}
 use Rattle.expanded_show.specs.declared.gathered.Gathered.{Gathered}
 
--- the block of a map that reads so, and those that its first entries name
+-- the block of a map that reads as `page`, and the blocks that its first entries name
 abbrev pub named_by : (at : ℕ) → (page : List ℕ) → (entries : ℕ) → List ℕ
 named_by at page entries = at ∷ map (map_entry page) (range_with_len 0 entries)
 
--- the blocks of the first maps of a chain with so many pages: each map, and then the pages that it names
+-- the blocks of the first maps of a chain with the given number of pages: each map, and then the pages that it names
 unfoldable pub chain_blocks : DiskImage → (first count maps : ℕ) → List ℕ
 chain_blocks v first count zero = []
 chain_blocks v first count (suc m) =
@@ -31,12 +31,12 @@ chain_blocks v first count (suc m) =
 abbrev pub chain_length : DiskImage → Index → ℕ
 chain_length v index = start_of (chain_of v index.first) (units_of index.pages)
 
--- a disk that tells what it holds has failed in a call; one that tells none may also hold no longer what it held
+-- if the disk tells what it holds, one of its calls has failed; if it doesn't, it may also no longer hold what it held
 abbrev pub FailsToRead : Option Content → (before now : ℕ) → Type 0
 FailsToRead content before now = IsSome content → HasRisen before now
 
--- The blocks are told in runs, and then how many maps there are: all that the pages of the chain need, or those before
--- the first that can't be read any more.
+-- The blocks are shown in runs, and then the number of maps: all maps that the pages of the chain need, or those before
+-- the first that can no longer be read.
 pub record AreBlockFacts (content : Option Content) (before now : ℕ) (index : Index) (facts : List Fact) : Type 0 where
   pub maps : ℕ
   pub blocks : List ℕ
@@ -46,8 +46,8 @@ pub record AreBlockFacts (content : Option Content) (before now : ℕ) (index : 
       × (blocks ≡ chain_blocks (as_it_reads held) index.first (chain_length (as_it_reads held) index) maps))
   pub says : facts ≡ map block_run (runs_of blocks) ++ fact.Maps maps ∷ []
 
--- How many units an image has, how many bytes the pages of the chain have that these take, and how many those that they
--- expand to: all but the info page.
+-- The number of units of an image, the number of bytes of the pages of the chain that these take, and of those that
+-- they expand to: all but the info page.
 abbrev pub unit_facts : Index → List Fact
 unit_facts index =
     fact.Units (units_of index.pages)
@@ -61,7 +61,7 @@ pub record AreAreaFacts (content : Option Content) (before now : ℕ) (index : I
   pub lies : AreBlockFacts content before now index blocks
   pub says : facts ≡ blocks ++ unit_facts index
 
--- what was put together of these blocks
+-- what was collected from these blocks
 pub record HasGathered (numbers : List ℕ) (g : Gathered) : Type 0 where
   pub ended : List (ℕ × ℕ)
   pub runs : IsUpTo numbers g.runs.last ended

@@ -19,8 +19,8 @@ abbrev pub IsNotWhole : Option Content → (blocks header before now : ℕ) → 
 IsNotWhole content blocks header before now =
     IsPlain content blocks header ⊎ ((found : List Finding) × IsWrong content blocks header before now found)
 
--- What is shown of the plain image that a whole compressed one expands to, with the header block of the area, and these
--- facts of its blocks, in place of those of the disk that expands it.
+-- The facts of the plain image that a whole compressed one expands to, with the header block of the area and these
+-- facts of its blocks in place of those of the disk that expands it.
 pub record ShowsExpanded (ShowsPlain : Option Content → (blocks header before now : ℕ) → List Fact → Type 0)
     (content : Option Content) (blocks header : ℕ) (index : Index) (area : List Fact) (before now : ℕ)
     (facts : List Fact) : Type 0 where
@@ -30,8 +30,8 @@ pub record ShowsExpanded (ShowsPlain : Option Content → (blocks header before 
   pub shows : ShowsPlain (expanded header content) (blocks_for index.pages) 0 0 faults plain
   pub says : facts ≡ flat_map (standing (header_facts blocks index.header) area) plain
 
--- An image that isn't compressed is shown as it is, and one with which something is wrong by its header block; else
--- what a whole one expands to.
+-- An image that isn't compressed is shown as it is, and one that has a fault by its header block; of a whole compressed
+-- one, what it expands to is shown.
 pub data ShowsAny (ShowsPlain : Option Content → (blocks header before now : ℕ) → List Fact → Type 0)
     (content : Option Content) (blocks header before now : ℕ) (facts : List Fact) : Type 0 where
   as_it_lies : (then : ℕ) → before ≤ then → IsNotWhole content blocks header before then →
@@ -47,6 +47,6 @@ abbrev pub ShowsAll : Option Content → (blocks header before now : ℕ) → Li
 ShowsAll content blocks header before now facts shown =
     ShowsAny (λ c n h b f fs. Shows c n h b f fs shown) content blocks header before now facts
 
--- no more than that
+-- no more than that is shown
 abbrev pub ShowsNoMore : Option Content → (blocks header before now : ℕ) → List Fact → Type 0
 ShowsNoMore content blocks header before now facts = ShowsAny ShowsFront content blocks header before now facts

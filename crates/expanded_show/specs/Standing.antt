@@ -1,4 +1,4 @@
--- What stands for a fact of a disk that expands an image, where the facts of its area are told.
+-- What replaces a fact of a disk that expands an image when the facts of its area are shown.
 use Rattle.std.specs.Prelude.{List, [], ◌∷◌}
 use Rattle.image_facts.specs.declared.fact.Fact.{Fact}
 use Rattle.image_facts.specs.declared.fact.Fact.TheVariants as fact
@@ -6,7 +6,8 @@ use Rattle.image_show.specs.Forms.{Style, kept_after, pieces}
 use Rattle.expanded_show.specs.declared.topic.Topic.{Topic}
 use Rattle.expanded_show.specs.declared.topic.Topic.TheVariants.{Disk, Place, Maps, Image}
 
--- how many blocks the disk has, its header block or where the image lies on it, how many maps, or the image itself
+-- the topic of a fact: how many blocks the disk has, its header block or where the image lies on it, how many maps it
+-- has, or the image itself
 abbrev pub topic_of : Fact → Topic
 topic_of (fact.Blocks n) = Disk
 topic_of fact.HeaderMissing = Place
@@ -46,7 +47,8 @@ topic_of (fact.CompressedBytes n) = Place
 topic_of (fact.ExpandedBytes n) = Place
 topic_of (fact.FrameRun start count) = Image
 
--- The facts of the area's header block stand for the first one, and where its image lies for the last of the blocks.
+-- The facts of the area's header block replace the first fact, and where its image lies replaces the last of the
+-- blocks.
 abbrev pub standing_by : (header blocks : List Fact) → Fact → Topic → List Fact
 standing_by header blocks f Disk = header
 standing_by header blocks f Place = []
@@ -56,7 +58,7 @@ standing_by header blocks f Image = f ∷ []
 abbrev pub standing : (header blocks : List Fact) → Fact → List Fact
 standing header blocks f = standing_by header blocks f (topic_of f)
 
--- a style in which for each fact those are printed that stand for it
+-- a style that prints for each fact those that replace it
 abbrev pub over_style : (Fact → List Fact) → Style → Style
 over_style each style =
     record { piece = λ last f. pieces style last (each f); kept = λ last f. kept_after style last (each f) }

@@ -3,8 +3,8 @@ ghost use Rattle.image_facts.specs.declared.fact.Fact.{Fact as OneFact};
 
 use std::marker::Brand;
 
-/// What an area says itself: its header block, and where its image lies; and which form takes it. It is chosen where
-/// `Brand` is passed.
+/// What an area itself says, which is its header block and where its image lies, and the form that receives it. The
+/// implementation is chosen where `Brand` is passed.
 pub trait AreaFacts {
     ghost which: { ℕ };
 

@@ -15,13 +15,13 @@ use page_core::{Failed, NoMemory, Page};
 use sector_disk::Disk;
 use std::alloc::Global;
 
-/// How many entries a map page has (MAP_PAGE_ENTRIES).
+/// The number of entries of a map page (MAP_PAGE_ENTRIES).
 const ENTRIES: u64 = 511;
 
-/// How many bytes a page has.
+/// The number of bytes of a page.
 const PAGE: u64 = 4096;
 
-/// The runs of the blocks that a compressed image takes, and how many maps it has. It reads its maps once more.
+/// Returns the runs of the blocks that a compressed image takes, and how many maps it has. The maps are read again.
 fn block_facts<D: Disk>(alloc: Global, disk: &mut D, index: &Index) -> Result<Vec<Fact>, NoMemory>
     requires indexed { ForSome (D.content disk.old) (λ held.
         IsIndexOf (D.block_count disk.old) (as_it_reads held) index.now.first index.now.header index.now) }
@@ -45,7 +45,7 @@ fn block_facts<D: Disk>(alloc: Global, disk: &mut D, index: &Index) -> Result<Ve
     gathered.ended(maps)
 }
 
-/// The same, and then how many units it has, how many bytes the pages have that they take, and how many those that
+/// Returns the same, and then the number of units, the number of bytes of the pages that they take, and of those that
 /// they expand to.
 pub(crate) fn area_facts<D: Disk>(
     alloc: Global,
@@ -77,7 +77,7 @@ fn add_unit_facts(facts: &mut Vec<Fact>, index: &Index) -> Result<(), NoMemory>
     push(facts, Fact::ExpandedBytes(PAGE * expanded))
 }
 
-/// How many pages the chain of an image has.
+/// Returns how many pages the chain of an image has.
 fn page_count(index: &Index) -> u64
     ensures few { result < 2 ^ 32 }
     ensures count { length index.now.starts.items ≡ units_of index.now.pages + 1 →
@@ -91,7 +91,7 @@ fn page_count(index: &Index) -> u64
     u64::from(index.starts[last])
 }
 
-/// How many entries a map has, in a chain of so many pages.
+/// Returns how many entries map `number` has, in a chain of `count` pages.
 fn entries_in(count: u64, number: u64) -> u64
     requires { 511 * number < count }
     ensures entries { result ≡ min 511 (count - 511 * number) }

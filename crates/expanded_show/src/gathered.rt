@@ -1,4 +1,4 @@
-//! The blocks of an image, put into runs.
+//! The blocks of an image, collected into runs.
 ghost use Rattle.std.specs.Prelude.{◌≡◌, ◌+◌, ◌<◌, ◌≤◌, ◌^◌, ◌∷◌, ◌++◌, [], List, ℕ, OnOk, IfOk, map};
 ghost use Rattle.std.specs.List.{range_with_len};
 ghost use Rattle.definitions.specs.Bytes.{word};
@@ -11,7 +11,7 @@ use image_facts::{Fact, Runs};
 use page_core::{NoMemory, Page};
 use std::alloc::Global;
 
-/// Blocks so far: their runs but for the last, as facts.
+/// The blocks so far: their runs except the last one, as facts.
 #[derive(Drop)]
 pub(crate) struct Gathered {
     pub runs: Runs,
@@ -21,7 +21,7 @@ pub(crate) struct Gathered {
 impl Gathered {
     ghost use Rattle.expanded_show.specs.Blocks.{HasGathered};
 
-    /// No block yet.
+    /// Returns a collection without blocks.
     pub fn new(alloc: Global) -> Gathered
         ensures none { HasGathered [] result }
         ensures count { count_of result.runs.last ≡ 0 }
@@ -60,7 +60,7 @@ impl Gathered {
         Ok(())
     }
 
-    /// The facts of all blocks, and of how many maps there are.
+    /// Returns the facts of all blocks, and of how many maps there are.
     pub fn ended(self, maps: u64) -> Result<Vec<Fact>, NoMemory>
         ensures { (numbers : List ℕ) → HasGathered numbers self → IfOk result (λ facts.
             facts.items ≡ map block_run (runs_of numbers) ++ Maps maps ∷ []) }

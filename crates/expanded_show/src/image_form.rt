@@ -1,4 +1,4 @@
-//! A form that takes the facts of a disk that expands an image.
+//! A form that receives the facts of a disk that expands an image.
 ghost use Rattle.std.specs.Prelude.{◌≡◌, ◌≤◌, OnOk, OnErr};
 ghost use Rattle.image_show.specs.Forms.{HasFailed, Puts, PutsFront};
 ghost use Rattle.expanded_show.specs.Standing.{over_style, standing};
@@ -20,9 +20,9 @@ pub(crate) struct LentForm<'a, F> {
 #[derive(Drop)]
 pub(crate) struct ImageForm<'a, 'b, F: Form, A: AreaFacts> {
     pub form: &'a mut F,
-    /// The facts of its header block.
+    /// The facts of the area's header block.
     pub header: &'b [Fact],
-    /// Where its image lies.
+    /// Where the area's image lies.
     pub blocks: &'b [Fact],
     pub area: PhantomData<A>,
     ghost form_is: { form.ghost_name ≡ A.which },

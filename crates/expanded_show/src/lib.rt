@@ -1,5 +1,5 @@
-//! What is written in a swap area whose image may be compressed, a fact after another: of a compressed one what is
-//! told of the plain image that it expands to, with the blocks of the area in place of that one's.
+//! What is written in a swap area whose image may be compressed, fact by fact. Of a compressed one, the facts are those
+//! of the plain image that it expands to, with the blocks of the area in place of that image's.
 #![tactic(auto)]
 
 mod area_facts;

@@ -30,14 +30,14 @@ struct Compressed {
     /// The block of the header.
     header: u32,
     index: Index,
-    /// Where it lies in its area, and what its units take.
+    /// Where the image lies in its area, and what its units take.
     blocks: Vec<Fact>,
 }
 
-/// Prints what is written in the area whose header lies in a block, as `image_show::show` does. A compressed image is
-/// read whole first, and something is said of it where nothing is wrong: what is said of the plain image that it
-/// expands to, but of its blocks those of the area. It takes the memory that `image_units::open` takes, too, and for
-/// each run of these blocks.
+/// Prints what is written in the area whose header lies in block `header`, as `image_show::show` does. A compressed
+/// image is read whole first, and is shown only if nothing is wrong with it: by the facts of the plain image that it
+/// expands to, with the blocks of the area in place of that image's. It also takes the memory that `image_units::open`
+/// takes, and memory for each run of these blocks.
 pub fn show<D: Disk, F: Form>(
     alloc: Global,
     disk: &mut D,
@@ -48,7 +48,7 @@ pub fn show<D: Disk, F: Form>(
         × (ShowsAll (D.content disk.old) (D.block_count disk.old) header
         (D.faults disk.old) (D.faults disk.new) facts shown
         × Puts F.style facts (F.written form.old) (F.written form.new))) }
-    // Where a write failed a front of such a text was taken.
+    // If a write failed, a prefix of such a text was written.
     ensures front { result ≡ Err Write → (facts : List OneFact)
         × (ShowsNoMore (D.content disk.old) (D.block_count disk.old) header
         (D.faults disk.old) (D.faults disk.new) facts
@@ -83,7 +83,7 @@ pub fn show<D: Disk, F: Form>(
     }
 }
 
-/// Prints what a whole compressed image is, over a disk that is given back.
+/// Prints the facts of a whole compressed image, over a disk that is given back.
 #[inline(never)]
 fn show_below<B: Walks + Drop, K: Original, F: Form>(
     alloc: Global,
@@ -124,8 +124,8 @@ fn show_below<B: Walks + Drop, K: Original, F: Form>(
     }
 }
 
-/// Prints what a disk that expands an image says of it, and these facts of the area in place of its own. The form is
-/// given back.
+/// Prints the facts of an image from the disk that expands it, with these facts of the area in place of the disk's own.
+/// The form is given back.
 fn show_facts<'a, 'b, E: Disk, F: Form, A: AreaFacts>(
     alloc: Global,
     disk: &mut E,

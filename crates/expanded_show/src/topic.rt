@@ -3,14 +3,14 @@ ghost use Rattle.expanded_show.specs.Standing.{topic_of};
 
 use image_facts::Fact;
 
-/// What a fact tells of, over a disk that expands an image.
+/// The topic of a fact of a disk that expands an image.
 #[derive(Clone, Copy)]
 pub enum Topic {
     /// How many blocks the disk has: its first fact.
     Disk,
-    /// Its header block, or where the image lies on it.
+    /// The disk's header block, or where the image lies on it.
     Place,
-    /// How many maps it has, after all its blocks.
+    /// How many maps the image has, after all its blocks.
     Maps,
     /// The image itself.
     Image,

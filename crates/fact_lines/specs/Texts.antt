@@ -1,4 +1,4 @@
--- The lines of facts: a key, and after a space each the numbers of its value, or its text.
+-- The lines of facts: a key, and then the numbers of its value, each after a space, or its text.
 use Rattle.std.specs.Prelude.{ℕ, ◌&&◌, Bool, List, ◌++◌, codes, decimal, nat_le, if◌then◌else◌}
 use Rattle.std.specs.Int.{w64, to_be_bytes}
 use Rattle.std.specs.List.{flat_map, list_all}
@@ -14,7 +14,7 @@ number_text n = codes " " ++ decimal n
 abbrev pub numbers_text : List ℕ → List ℕ → List ℕ
 numbers_text key numbers = key ++ flat_map number_text numbers
 
--- a key, and a word by its 16 hexadecimal digits
+-- a key, and a word as 16 hexadecimal digits
 abbrev pub word_text : List ℕ → ℕ → List ℕ
 word_text key n = key ++ codes " 0x" ++ hex_text (to_be_bytes w64 n)
 
@@ -31,7 +31,7 @@ name_key name.Domainname = codes "domainname"
 abbrev pub is_printable : ℕ → Bool
 is_printable b = nat_le 32 b && nat_le b 126
 
--- A text as it is where each byte is printable, else by two hexadecimal digits for each.
+-- A text as it is if each byte is printable, else as two hexadecimal digits for each byte.
 abbrev pub value_text : List ℕ → List ℕ
 value_text text = if list_all is_printable text then codes " " ++ text else codes "_hex " ++ hex_text text
 

@@ -13,7 +13,7 @@ impl Name {
     ghost use Rattle.std.specs.Prelude.{◌≡◌, ◌≤◌, length};
     ghost use Rattle.fact_lines.specs.Texts.{name_key};
 
-    /// The key that its lines begin with.
+    /// Returns the key at the beginning of the name's line.
     pub fn key(self) -> &'static [u8]
         ensures text { result.now ≡ name_key self }
         ensures short { length result.now ≤ 10 }

@@ -42,8 +42,8 @@ pub fn put_name(line: &mut Line, name: Name, bytes: &[u8; 65])
     put_text(line, name.key(), bytes);
 }
 
-/// Writes a key into an empty buffer, and a text after it up to its first zero byte: as it is, or by the hexadecimal
-/// digits of its bytes where a byte isn't printable.
+/// Writes a key into an empty buffer, and then a text up to its first zero byte: as it is, or as the hexadecimal digits
+/// of its bytes if one of them isn't printable.
 pub fn put_text(line: &mut Line, key: &[u8], bytes: &[u8])
     requires empty { length line.old ≡ 0 }
     requires short { length key.now ≤ 20 }
@@ -62,21 +62,21 @@ pub fn put_text(line: &mut Line, key: &[u8], bytes: &[u8])
     }
 }
 
-/// Whether each byte is a space or a visible character of ASCII.
+/// Returns whether each byte is a space or a visible character of ASCII.
 pub fn is_printable(text: &[u8]) -> bool
     ensures { result ≡ list_all is_printable text.now }
 {
     text.iter().all(|&b| b' ' <= b && b <= b'~')
 }
 
-/// How many bytes a text has before its first zero byte.
+/// Returns how many bytes a text has before its first zero byte.
 fn text_len(bytes: &[u8]) -> usize
     ensures { result ≡ length (text_of_name bytes.now) }
 {
     bytes.iter().take_while(|b| **b != 0).count()
 }
 
-/// A text up to its first zero byte.
+/// Returns a text up to its first zero byte.
 fn text_of(bytes: &[u8]) -> &[u8]
     ensures text { result.now ≡ text_of_name bytes.now }
     ensures len { length result.now ≤ length bytes.now }

@@ -7,9 +7,9 @@ use page_core::Page;
 use sector_disk::Disk;
 use sig_header::AreaKind;
 
-/// The block of the first map that the header block of an image names, where the disk ends before it. So it is where a
+/// Returns the block of the first map that an image's header block names, if the disk ends before it. This happens if a
 /// swap file is given in place of the device that it lies in: the header is the file's first block, and the maps name
-/// blocks of the device. A header block that can't be read names none.
+/// blocks of the device. Returns nothing if the header block can't be read.
 pub fn first_map_beyond<D: Disk>(disk: &mut D) -> Option<u64>
     ensures beyond { 0 < D.block_count disk.old → IfSome (D.content disk.old) (λ held.
         (result ≡ map_beyond (D.block_count disk.old) (area_kind (block (as_it_reads held) 0)))
@@ -32,7 +32,7 @@ pub fn first_map_beyond<D: Disk>(disk: &mut D) -> Option<u64>
     }
 }
 
-/// The first map of an image's header block, where it isn't one of so many blocks.
+/// Returns the first map of an image's header block, unless it is one of the `blocks` blocks.
 fn first_map(kind: AreaKind, blocks: u32) -> Option<u64>
     ensures { result ≡ map_beyond blocks kind }
 {

@@ -16,12 +16,12 @@ use std::rt::Files;
 
 const BLOCK_SIZE: u64 = 4096;
 
-/// The descriptors up to this one are the standard streams'.
+/// The last descriptor of a standard stream.
 const LAST_STREAM: i32 = 2;
 
-/// A disk in a file or on a block device, whose blocks are its length divided by 4096.
+/// A disk in a file or on a block device. The number of its blocks is its length divided by 4096.
 ///
-/// It is locked as long as it is kept (flock(2)): for itself alone where it may be written, else beside other readers.
+/// It stays locked as long as it is kept (flock(2)): exclusively if it may be written, else shared with other readers.
 ///
 /// It tells neither content nor moments: what a file does at a power cut is not known here. A restart and an arm
 /// change nothing.
@@ -32,11 +32,11 @@ pub struct FileDisk<F> {
     calls: u64,
     faults: u64,
     orders: Orders,
-    /// Whether the next block that is read is the first one, of a disk that may be written.
+    /// Whether the next block read is the first one, of a disk that may be written.
     is_cached: bool,
 }
 
-/// What is done with a disk.
+/// The calls that a disk allows.
 #[derive(Clone, Copy, PartialEq, Eq)]
 pub(crate) enum Access {
     Read,
@@ -44,10 +44,10 @@ pub(crate) enum Access {
 }
 
 impl FileDisk<File> {
-    /// Opens a file or a block device for reading and writing, and locks it. One that somebody else has locked is
-    /// refused, and so is one that the kernel uses.
+    /// Opens a file or a block device for reading and writing, and locks it. It is refused if another process has
+    /// locked it or the kernel uses it.
     ///
-    /// What is neither a file nor a block device is refused before it is opened, since to open a FIFO is to wait.
+    /// Anything but a file or a block device is refused before it is opened, since opening a FIFO would block.
     pub fn open<R: Files<File = File> + Alloc + Clone + Drop>(
         rt: &R,
         path: &str,
@@ -64,8 +64,8 @@ impl FileDisk<File> {
         FileDisk::over(file, &found, Access::ReadAndWrite)
     }
 
-    /// Opens a file or a block device for reading alone: each write fails. One that somebody else has locked for
-    /// himself alone is refused, and so is, before it is opened, what is neither a file nor a block device.
+    /// Opens a file or a block device for reading only: each write fails. It is refused if another process has locked
+    /// it exclusively, and, before it is opened, if it is neither a file nor a block device.
     pub fn open_read_only<R: Files<File = File>>(rt: &R, path: &str) -> io::Result<FileDisk<File>>
         ensures new { IfOk result IsNewFileDisk }
         ensures no_stream { IfOk result (λ disk. IsNoStream (file_raw_fd disk.file)) }
@@ -78,8 +78,9 @@ impl FileDisk<File> {
 }
 
 impl<F: FileExt + Seek + OpenFile + AsRawFd + Drop> FileDisk<F> {
-    /// A disk over an open file, which must be the one that was found at its path, and no standard stream: what the
-    /// program prints must not reach the disk. Of a device the system tells the length at its end alone.
+    /// Makes a disk over an open file, which must be the one that was found at its path, and not a standard stream:
+    /// what the program prints must not reach the disk. The length of a device is known only from the position of its
+    /// end.
     pub(crate) fn over(mut file: F, found: &Metadata, access: Access) -> io::Result<FileDisk<F>>
         ensures new { IfOk result IsNewFileDisk }
         ensures no_stream { IfOk result (λ disk. IfSome (F.raw_fd disk.file) IsNoStream) }
@@ -104,11 +105,11 @@ impl<F: FileExt + Seek + OpenFile + AsRawFd + Drop> FileDisk<F> {
         })
     }
 
-    /// Reads a block. The first one of a disk that may be written is written back where it is a header block, and
-    /// synced.
+    /// Reads a block. The first one that is read from a disk that may be written is written back and synced if it is a
+    /// header block.
     ///
-    /// After a sync that failed, Linux takes what it has in memory for what the disk has, and hands it out. So what a
-    /// command rests on, whether an image is there, is brought to the disk before the command does anything.
+    /// After a sync that failed, Linux takes what it has in memory for what the disk has, and returns that. So the fact
+    /// that a command relies on, whether an image exists, is brought to the disk before the command does anything.
     fn read_block(&mut self, b: u32, into: &mut [u8; 4096]) -> io::Result<()>
         ensures calls { self.new.calls ≡ self.old.calls }
         ensures faults { self.new.faults ≡ self.old.faults }
@@ -126,7 +127,7 @@ impl<F: FileExt + Seek + OpenFile + AsRawFd + Drop> FileDisk<F> {
         Ok(())
     }
 
-    /// Counts a call, and a failure where it failed.
+    /// Counts a call, and a failure if it failed.
     fn count(&mut self, answer: io::Result<()>) -> Result<(), Failed>
         ensures calls { self.new.calls ≡ raised self.old.calls }
         ensures faults { self.old.faults ≤ self.new.faults }
@@ -147,7 +148,7 @@ impl<F: FileExt + Seek + OpenFile + AsRawFd + Drop> FileDisk<F> {
     }
 }
 
-/// What is at a path, if that is a regular file or a block device.
+/// Returns what is at a path, if that is a regular file or a block device.
 fn kind_at<R: Files>(rt: &R, path: &str) -> io::Result<Metadata> {
     let found = rt.metadata(path)?;
     let kind = found.file_type();
@@ -158,7 +159,7 @@ fn kind_at<R: Files>(rt: &R, path: &str) -> io::Result<Metadata> {
     }
 }
 
-/// Refuses what the kernel uses.
+/// Refuses a file or device that the kernel uses.
 fn refuse_used<R: Files + Alloc + Clone + Drop>(rt: &R, found: &Metadata) -> io::Result<()> {
     if is_in_use(rt, found)? {
         return Err(ErrorKind::ResourceBusy.into());
@@ -166,14 +167,14 @@ fn refuse_used<R: Files + Alloc + Clone + Drop>(rt: &R, found: &Metadata) -> io:
     Ok(())
 }
 
-/// Where a block begins, in bytes.
+/// Returns the offset of a block in bytes.
 fn offset_of(b: u32) -> u64
     ensures { result ≡ 4096 * b }
 {
     BLOCK_SIZE * u64::from(b)
 }
 
-/// Whether a block ends with the signature of a swap area or of an image.
+/// Returns whether a block ends with the signature of a swap area or of an image.
 fn is_header(block: &[u8; 4096]) -> bool {
     !matches!(
         AreaKind::read(&Page::from_bytes(block)),

@@ -1,5 +1,5 @@
-//! Whether the kernel uses a file or a block device. The library can't open a device for its own alone, so the kernel
-//! is asked: /proc tells its mounts and swap areas, and /sys which device holds another (device mapper, RAID).
+//! Whether the kernel uses a file or a block device. The library can't open a device exclusively, so the kernel is
+//! asked: /proc lists its mounts and swap areas, and /sys shows which device holds another (device mapper, RAID).
 use std::alloc::{AllocError, Allocator};
 use std::fs::{self, Metadata};
 use std::io::{self, ErrorKind};
@@ -14,8 +14,8 @@ pub(crate) struct Device {
 }
 
 impl Device {
-    /// The device of an inode, in Linux' encoding of 64 bits (`new_encode_dev`, include/linux/kdev_t.h, and glibc's
-    /// `makedev`).
+    /// Returns the device of an inode, from Linux' 64-bit encoding (`new_encode_dev`, include/linux/kdev_t.h, and
+    /// glibc's `makedev`).
     pub(crate) fn of(number: u64) -> Device {
         Device {
             major: ((number >> 8) & 0xfff) as u32 | ((number >> 32) & 0xffff_f000) as u32,
@@ -23,7 +23,7 @@ impl Device {
         }
     }
 
-    /// Reads `MAJOR:MINOR`.
+    /// Parses `MAJOR:MINOR`.
     pub(crate) fn parse(text: &str) -> Option<Device> {
         let (major, minor) = text.trim().split_once(':')?;
         Some(Device {
@@ -33,22 +33,22 @@ impl Device {
     }
 }
 
-/// What a line of /proc/self/mountinfo tells of the mounted device: the number of the file system, which for some kinds
-/// is none of a device, and the source, which for some kinds is no path.
+/// Returns what a line of /proc/self/mountinfo says of the mounted device: the number of the file system, which for
+/// some kinds isn't a device's, and the source, which for some kinds isn't a path.
 pub(crate) fn mounted(line: &str) -> Option<(Device, &str)> {
     let (places, file_system) = line.split_once(" - ")?;
     let number = Device::parse(places.split_ascii_whitespace().nth(2)?)?;
     Some((number, file_system.split_ascii_whitespace().nth(1)?))
 }
 
-/// A swap area of the kernel's, by the path that a line of /proc/swaps has of it.
+/// A swap area of the kernel, by its path in a line of /proc/swaps.
 #[derive(Clone, Copy, PartialEq, Eq, Debug)]
 pub(crate) enum SwapArea<'a> {
     Device(&'a str),
     File(&'a str),
 }
 
-/// The swap area of a line of /proc/swaps. Its first line is of none.
+/// Returns the swap area of a line of /proc/swaps. The first line has none.
 pub(crate) fn swap_area(line: &str) -> Option<SwapArea<'_>> {
     let mut words = line.split_ascii_whitespace();
     let path = words.next()?;
@@ -59,8 +59,8 @@ pub(crate) fn swap_area(line: &str) -> Option<SwapArea<'_>> {
     }
 }
 
-/// A path that /proc prints. A space, a tab, a line feed and a backslash stand there as a backslash and three octal
-/// digits (`mangle_path`, fs/seq_file.c).
+/// Unescapes a path that /proc prints, in which a backslash and three octal digits stand for a space, a tab, a line
+/// feed and a backslash (`mangle_path`, fs/seq_file.c).
 pub(crate) fn unescaped<A: Allocator>(alloc: A, text: &str) -> Result<String<A>, AllocError> {
     let mut path = String::new(alloc);
     for (at, piece) in text.split('\\').enumerate() {
@@ -75,7 +75,7 @@ pub(crate) fn unescaped<A: Allocator>(alloc: A, text: &str) -> Result<String<A>,
     Ok(path)
 }
 
-/// The byte that a piece's first three digits stand for, and what follows them.
+/// Returns the character that the first three digits of a piece stand for, and what follows them.
 fn octal_start(piece: &str) -> Option<(&'static str, &str)> {
     for (digits, byte) in [("040", " "), ("011", "\t"), ("012", "\n"), ("134", "\\")] {
         if let Some(rest) = piece.strip_prefix(digits) {
@@ -85,7 +85,7 @@ fn octal_start(piece: &str) -> Option<(&'static str, &str)> {
     None
 }
 
-/// A device that is looked for, and the disk that it is or is a part of.
+/// A device that is looked for, and the disk that it is or belongs to.
 #[derive(Clone, Copy)]
 struct Sought {
     device: Device,
@@ -100,7 +100,7 @@ impl Sought {
         })
     }
 
-    /// Whether the device can't be had alone where this one is used: it is the same, its disk, or a partition of it.
+    /// Returns whether the use of `used` excludes this device: it is the same device, its disk, or a partition of it.
     fn meets<R: Files + Alloc>(&self, rt: &R, used: Device) -> io::Result<bool> {
         if used == self.device || used == self.disk {
             return Ok(true);
@@ -109,7 +109,7 @@ impl Sought {
     }
 }
 
-/// The disk of a partition; another device is its own.
+/// Returns the disk of a partition; another device is its own.
 fn disk_of<R: Files + Alloc>(rt: &R, device: Device) -> io::Result<Device> {
     let Device { major, minor } = device;
     let folder = format!(in rt.alloc(); "/sys/dev/block/{major}:{minor}")?;
@@ -122,7 +122,7 @@ fn disk_of<R: Files + Alloc>(rt: &R, device: Device) -> io::Result<Device> {
     Device::parse(number.as_str()).ok_or(ErrorKind::InvalidData.into())
 }
 
-/// Whether a file system of the device, of its disk or of a partition of it is mounted.
+/// Returns whether a file system of the device, of its disk or of a partition of it is mounted.
 fn is_mounted<R: Files + Alloc>(rt: &R, sought: &Sought) -> io::Result<bool> {
     let mounts = fs::read_to_string(rt, "/proc/self/mountinfo")?;
     for line in mounts.lines() {
@@ -141,7 +141,7 @@ fn is_mounted<R: Files + Alloc>(rt: &R, sought: &Sought) -> io::Result<bool> {
     Ok(false)
 }
 
-/// The block device at an absolute path that /proc prints, if there is one.
+/// Returns the block device at an absolute path that /proc prints, if there is one.
 fn device_at<R: Files + Alloc>(rt: &R, printed: &str) -> io::Result<Option<Device>> {
     if !printed.starts_with('/') {
         return Ok(None);
@@ -155,8 +155,8 @@ fn device_at<R: Files + Alloc>(rt: &R, printed: &str) -> io::Result<Option<Devic
     }
 }
 
-/// What /proc/swaps prints. Without it, as without /proc or in a kernel that can't swap, there is no swap area that is
-/// known of.
+/// Returns what /proc/swaps prints. Without that file, as without /proc or in a kernel that can't swap, no swap area is
+/// known.
 fn printed_swaps<R: Files + Alloc>(rt: &R) -> io::Result<Option<String<R::A>>> {
     match fs::read_to_string(rt, "/proc/swaps") {
         Ok(swaps) => Ok(Some(swaps)),
@@ -165,8 +165,8 @@ fn printed_swaps<R: Files + Alloc>(rt: &R) -> io::Result<Option<String<R::A>>> {
     }
 }
 
-/// Whether the kernel swaps to the device, to its disk or to a partition of it. A swap area at a path where no device
-/// is found might be any.
+/// Returns whether the kernel swaps to the device, to its disk or to a partition of it. A swap area whose path leads to
+/// no device might be on any.
 fn is_swapped_to<R: Files + Alloc>(rt: &R, sought: &Sought) -> io::Result<bool> {
     let Some(swaps) = printed_swaps(rt)? else {
         return Ok(false);
@@ -184,7 +184,7 @@ fn is_swapped_to<R: Files + Alloc>(rt: &R, sought: &Sought) -> io::Result<bool> 
     Ok(false)
 }
 
-/// Whether another device holds this one.
+/// Returns whether another device holds this one.
 fn is_held<R: Files + Alloc + Clone + Drop>(rt: &R, device: Device) -> io::Result<bool> {
     let Device { major, minor } = device;
     let folder = format!(in rt.alloc(); "/sys/dev/block/{major}:{minor}")?;
@@ -202,7 +202,7 @@ fn has_holder<R: Files + Alloc + Clone + Drop>(rt: &R, folder: &str) -> io::Resu
     }
 }
 
-/// Whether another device holds a partition of a disk.
+/// Returns whether another device holds a partition of a disk.
 fn has_held_part<R: Files + Alloc + Clone + Drop>(rt: &R, disk: Device) -> io::Result<bool> {
     let Device { major, minor } = disk;
     let folder = format!(in rt.alloc(); "/sys/dev/block/{major}:{minor}")?;
@@ -217,7 +217,7 @@ fn has_held_part<R: Files + Alloc + Clone + Drop>(rt: &R, disk: Device) -> io::R
     Ok(false)
 }
 
-/// Whether there is a file within an entry of a folder. Within one that is no folder there is none.
+/// Returns whether a file exists within an entry of a folder. An entry that isn't a folder contains none.
 fn exists_within<R: Files>(rt: &R, path: &str) -> io::Result<bool> {
     match fs::exists(rt, path) {
         Err(e) if e.kind() == ErrorKind::NotADirectory => Ok(false),
@@ -225,9 +225,9 @@ fn exists_within<R: Files>(rt: &R, path: &str) -> io::Result<bool> {
     }
 }
 
-/// Whether the kernel uses the device: it has a file system of it mounted, swaps to it, or another device holds it. A
-/// disk is used where a partition of it is, and a partition where its disk is. Where the kernel doesn't tell, that is
-/// an error.
+/// Returns whether the kernel uses the device: a file system of it is mounted, the kernel swaps to it, or another
+/// device holds it. A disk is in use if a partition of it is, and a partition if its disk is. If the kernel doesn't
+/// say, that is an error.
 fn is_used_device<R: Files + Alloc + Clone + Drop>(rt: &R, number: u64) -> io::Result<bool> {
     let sought = Sought::of(rt, Device::of(number))?;
     Ok(
@@ -239,9 +239,9 @@ fn is_used_device<R: Files + Alloc + Clone + Drop>(rt: &R, number: u64) -> io::R
     )
 }
 
-/// Whether the kernel swaps to a regular file, as far as it tells where its swap files are: one that it shows by no
-/// path that leads there, as that of another root, might be any. Where /proc/swaps is there and can't be read, that is
-/// an error.
+/// Returns whether the kernel swaps to a regular file, as far as it says where its swap files are: one that it shows by
+/// a path that doesn't lead there, such as that of another root, might be any file. If /proc/swaps exists and can't be
+/// read, that is an error.
 fn is_swap_file<R: Files + Alloc>(rt: &R, sought: &Metadata) -> io::Result<bool> {
     let Some(swaps) = printed_swaps(rt)? else {
         return Ok(false);
@@ -261,7 +261,7 @@ fn is_swap_file<R: Files + Alloc>(rt: &R, sought: &Metadata) -> io::Result<bool>
     Ok(false)
 }
 
-/// Whether the kernel uses a block device or a regular file.
+/// Returns whether the kernel uses a block device or a regular file.
 pub(crate) fn is_in_use<R: Files + Alloc + Clone + Drop>(
     rt: &R,
     found: &Metadata,

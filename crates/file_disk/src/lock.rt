@@ -2,21 +2,20 @@
 use std::fs::{File, TryLockError};
 use std::io::{self, ErrorKind};
 
-/// The system's number of the error that it has no more locks, which a file server without a lock manager gives
-/// (ENOLCK).
+/// The error number of a system that has no more locks, which a file server without a lock manager returns (ENOLCK).
 const NO_LOCKS: i32 = 37;
 
-/// Locks a file for this process alone. What another one has locked is refused.
+/// Locks a file exclusively. A file that another process has locked is refused.
 pub(crate) fn lock_exclusive(file: &File) -> io::Result<()> {
     locked(file.try_lock())
 }
 
-/// Locks a file beside others that read it. What another process has locked for itself alone is refused.
+/// Locks a file shared with other readers. A file that another process has locked exclusively is refused.
 pub(crate) fn lock_shared(file: &File) -> io::Result<()> {
     locked(file.try_lock_shared())
 }
 
-/// Where the system has no locks, the file is taken without one.
+/// Returns the result of a lock. If the system has no locks, the file is accepted without one.
 fn locked(answer: Result<(), TryLockError>) -> io::Result<()> {
     match answer {
         Ok(()) => Ok(()),
@@ -26,7 +25,7 @@ fn locked(answer: Result<(), TryLockError>) -> io::Result<()> {
     }
 }
 
-/// Whether an error says that the file's system has no locks.
+/// Returns whether an error says that the file's system has no locks.
 pub(crate) fn has_no_locks(error: &io::Error) -> bool {
     error.kind() == ErrorKind::Unsupported || error.raw_os_error() == Some(NO_LOCKS)
 }

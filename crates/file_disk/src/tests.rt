@@ -67,7 +67,7 @@ fn a_block_that_is_gone_is_a_fault(rt: HostRuntime) -> Result<(), Fail> {
     Ok(())
 }
 
-// A file that counts what reaches it, and lets no sync through where `keeps` is false.
+// A file that counts the calls that reach it, and lets no sync through if `keeps` is false.
 #[derive(Drop)]
 struct Watched<'a> {
     file: File,
@@ -122,7 +122,7 @@ impl<'a> OpenFile for Watched<'a> {
     }
 }
 
-/// A block of zeros that ends with a signature, as a header block does (`magic` of union swap_header,
+/// Returns a block of zeros that ends with a signature, as a header block does (`magic` of union swap_header,
 /// include/linux/swap.h).
 fn signed(signature: &[u8; 10]) -> [u8; 4096] {
     let mut block = [0; 4096];
@@ -130,7 +130,7 @@ fn signed(signature: &[u8; 10]) -> [u8; 4096] {
     block
 }
 
-/// What the first read and a second one of a file of two blocks answer, and how many writes and syncs reach the file.
+/// Returns what a first and a second read of a file of two blocks return, and how many writes and syncs reach the file.
 fn reads_of(
     rt: &HostRuntime,
     path: &str,
@@ -163,7 +163,7 @@ fn reads_of(
     Ok((once, twice, writes.get(), syncs.get()))
 }
 
-// Of a disk that may be written the header block that is read first is written back and synced, once it could be.
+// On a disk that may be written, a header block that is read first is written back and synced, until that succeeds.
 #[test]
 fn a_header_that_is_read_is_brought_to_the_disk(rt: HostRuntime) -> Result<(), Fail> {
     let folder = "file_disk_header_test";
@@ -222,7 +222,7 @@ fn a_sync_that_fails_is_a_fault(rt: HostRuntime) -> Result<(), Fail> {
     Ok(())
 }
 
-// One that may write is alone; readers share.
+// A disk that may be written is locked exclusively; readers share.
 #[test]
 fn a_file_is_locked(rt: HostRuntime) -> Result<(), Fail> {
     let folder = "file_disk_lock_test";
@@ -367,8 +367,8 @@ fn paths_of_proc(rt: HostRuntime) -> Result<(), Fail> {
     Ok(())
 }
 
-// The file `devices`, which tools/device_test.sh makes, names block devices: `used PATH`, or `free PATH`. Without it
-// there is nothing to open.
+// The file `devices`, which tools/device_test.sh makes, names block devices: `used PATH`, or `free PATH`. Without that
+// file there is nothing to open.
 #[test]
 fn devices_in_use_are_refused(rt: HostRuntime) -> Result<(), Fail> {
     let Ok(devices) = fs::read_to_string(&rt, DEVICES) else {

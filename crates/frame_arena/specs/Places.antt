@@ -1,4 +1,4 @@
--- Page frames whose pages lie in places: what is seen of them, and what holds of the places.
+-- Page frames whose pages lie in places: their contents, and what holds of the places.
 use Rattle.std.specs.Prelude.{◌≡◌, ◌<◌, ◌≤◌, ◌+◌, ◌^◌, ℕ, zero, suc, List, [], length, map, slice_index, slice_index_or}
 use Rattle.std.specs.Prelude.{nat_le}
 use Rattle.std.specs.List.{count_by}
@@ -22,8 +22,8 @@ shared_page (suc place) = filled_page 165
 abbrev pub own_count : List ℕ → ℕ
 own_count places = count_by (nat_le 2) places
 
--- Places 0 and 1 have the pages that are shared. Each page frame has one of these, or a place of its own; there are no
--- more pages than these need, and room for as many as all page frames could need.
+-- Places 0 and 1 have the shared pages. Each page frame has one of these, or a place of its own; there are no more
+-- pages than these need, and there is room for as many as all page frames could need.
 pub record AreKept (places : List ℕ) (pages : List (List ℕ)) (capacity : ℕ) : Type 0 where
   pub few : 2 + length places < 2 ^ 32
   pub shared : (place : ℕ) → place < 2 → slice_index_or pages place [] ≡ shared_page place

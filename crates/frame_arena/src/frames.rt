@@ -11,27 +11,26 @@ use page_core::{NoMemory, Page};
 use std::alloc::Global;
 use std::marker::Model;
 
-/// The byte with which the kernel of a resume finds the memory filled that no image may touch.
+/// The byte that fills the memory which no image may touch, when the kernel of a resume starts.
 pub const FILLER: u8 = 165;
 
 /// The place of the page of zeros.
 const ZEROS: u32 = 0;
 
-/// The place of the page of which each byte is `FILLER`.
+/// The place of the page in which each byte is `FILLER`.
 const FILLED: u32 = 1;
 
-/// How many pages, the first ones, any number of page frames may share.
+/// The number of pages, from the first on, that any number of page frames may share.
 const SHARED: u32 = 2;
 
-/// The page frames of a machine, by their numbers from 0 on. All memory that they can need is taken when they are made,
-/// and none of it is touched before a byte of its page frame is written: until then, and while it is set to zeros or to
-/// `FILLER` as a whole, a page frame costs an entry of a table.
+/// The page frames of a machine, numbered from 0. All memory that they can need is allocated when they are made, and
+/// none of it is touched before a byte of its page frame is written: until then, and while it is set to zeros or to
+/// `FILLER` as a whole, a page frame costs one entry of a table.
 #[derive(Drop)]
 pub struct Frames {
-    /// Of each page frame the place of its page in `pages`.
+    /// The place in `pages` of each page frame's page.
     places: Vec<u32>,
-    /// The pages that are shared, and then the pages of the page frames that were written, in the order of their first
-    /// writes.
+    /// The shared pages, and then the pages of the page frames that were written, in the order of their first writes.
     pages: Vec<Page>,
 }
 
@@ -50,7 +49,7 @@ impl Model for Frames {
 impl Frames {
     ghost use Rattle.frame_arena.specs.Lends.{LendsPage};
 
-    /// `n` page frames of zeros.
+    /// Allocates `n` page frames of zeros.
     pub fn create(alloc: Global, n: u32) -> Result<Frames, NoMemory>
         ensures { IfOk result (λ frames. frames ≡ replicate n zero_page) }
     {
@@ -68,7 +67,7 @@ impl Frames {
         Ok(Frames { places, pages })
     }
 
-    /// The number of page frames.
+    /// Returns the number of page frames.
     pub fn len(&self) -> u32
         ensures len { result ≡ length self.now }
         ensures pages { All IsPage self.now }
@@ -76,7 +75,7 @@ impl Frames {
         self.places.len() as u32
     }
 
-    /// The content of page frame `p`.
+    /// Returns the content of page frame `p`.
     pub fn page(&self, p: u32) -> &Page
         requires { p < length self.now }
         ensures content { result.now ≡ frame self.now p }
@@ -84,12 +83,12 @@ impl Frames {
     {
         let place = self.places[p as usize];
         let page = &self.pages[place as usize];
-        // So it is known to be whole.
+        // This tells the prover that the page is whole.
         let _ = page.as_bytes();
         page
     }
 
-    /// Page frame `p`, to be written over.
+    /// Returns page frame `p` for writing.
     pub fn page_mut(&mut self, p: u32) -> &mut Page
         requires { p < length self.old }
         ensures* writes_back { sem 𝓛 (LendsPage self.entry p result) }
@@ -97,7 +96,7 @@ impl Frames {
     {
         let place = own_place(&mut self.places, &mut self.pages, p);
         let page = &mut self.pages[place as usize];
-        // So it is known to be whole.
+        // This tells the prover that the page is whole.
         let _ = page.as_bytes();
         page
     }
@@ -131,13 +130,13 @@ impl Frames {
         }
         let target = own_place(&mut self.places, &mut self.pages, to);
         let source = self.places[from as usize];
-        // Nothing lies between these two, so that the page is copied once.
+        // Nothing lies between these two statements, so that the page is copied only once.
         let page = Page::from_bytes(self.pages[source as usize].as_bytes());
         self.pages[target as usize] = page;
     }
 
-    /// Whether each byte of page frame `p` is zero. Of one that shares the page of zeros this is known without a look at
-    /// it.
+    /// Returns whether each byte of page frame `p` is zero. If it shares the page of zeros, this is known without
+    /// looking at the page.
     pub fn is_zero(&self, p: u32) -> bool
         requires { p < length self.now }
         ensures { result ≡ pointwise nat_eq (frame self.now p) zero_page }
@@ -156,9 +155,9 @@ impl Frames {
         ensures copied { self.new ≡ with_run self.old to (run_at n self.old from) }
         ensures len { length self.new ≡ length self.old }
     {
-        // So there are known to be fewer than 2 ^ 32.
+        // This tells the prover that there are fewer than 2 ^ 32.
         let _ = self.len();
-        // From the end where no source is written before it is read.
+        // Starts at the end at which no source is written before it is read.
         if to < from {
             copy_forward(self, from, to, n);
         } else {
@@ -166,7 +165,7 @@ impl Frames {
         }
     }
 
-    /// The 8-byte number at 8i of page frame `p`.
+    /// Returns the 8-byte number at offset 8i of page frame `p`.
     pub fn word(&self, p: u32, i: usize) -> u64
         requires frame_in_range { p < length self.now }
         requires word_in_range { i < 512 }
@@ -175,7 +174,7 @@ impl Frames {
         self.page(p).word(i)
     }
 
-    /// Sets the 8-byte number at 8i of page frame `p`, and leaves the rest.
+    /// Sets the 8-byte number at offset 8i of page frame `p`, and leaves the rest.
     pub fn set_word(&mut self, p: u32, i: usize, v: u64)
         requires frame_in_range { p < length self.old }
         requires word_in_range { i < 512 }
@@ -184,7 +183,7 @@ impl Frames {
         self.page_mut(p).set_word(i, v);
     }
 
-    /// The 4-byte number at offset k of page frame `p`.
+    /// Returns the 4-byte number at offset k of page frame `p`.
     pub fn u32_at(&self, p: u32, k: usize) -> u32
         requires frame_in_range { p < length self.now }
         requires number_in_range { k ≤ 4092 }
@@ -246,7 +245,7 @@ impl Frames {
     }
 }
 
-// The place of page frame `p`'s own page. A copy of the one that it shares is added where it has none.
+// Returns the place of page frame `p`'s own page. If it has none, adds a copy of the one that it shares.
 fn own_place(places: &mut Vec<u32>, pages: &mut Vec<Page>, p: u32) -> u32
     requires kept { AreKept places.old.items pages.old.items (vec_capacity pages.old) }
     requires in_range { p < length places.old.items }
@@ -265,8 +264,8 @@ fn own_place(places: &mut Vec<u32>, pages: &mut Vec<Page>, p: u32) -> u32
     added
 }
 
-// Adds a copy of the page in a place, where there is room. It stands apart so that its callers have no page on their
-// stacks.
+// Adds a copy of the page in a place, if there is room. It is a function of its own so that its callers have no page on
+// their stacks.
 #[cold]
 #[inline(never)]
 fn push_copy(pages: &mut Vec<Page>, place: u32)

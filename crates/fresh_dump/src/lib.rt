@@ -18,7 +18,7 @@ use std::alloc::Global;
 use swap_slots::{SlotEntry, SlotTable};
 
 /// Makes a dump's memory that of the same machine when it has just booted: no task has a page frame or a slot, and the
-/// bad slots are those that were bad. Where memory is refused nothing changes.
+/// bad slots are those that were bad. If memory is refused, nothing changes.
 pub fn make_fresh(alloc: Global, dump: &mut Dump) -> Result<(), NoMemory>
     requires { length dump.old.frames ≡ top dump.old.hw.zones }
     ensures fresh { OnOk result (dump.new.frames ≡ fresh_memory dump.old.hw (kept_slot dump.old.hw dump.old.frames)) }
@@ -30,7 +30,7 @@ pub fn make_fresh(alloc: Global, dump: &mut Dump) -> Result<(), NoMemory>
     Ok(())
 }
 
-/// The fresh memory of a machine that had this memory.
+/// Returns the fresh memory of a machine that had this memory.
 fn fresh_frames(alloc: Global, hw: &Hardware, before: &Frames) -> Result<Frames, NoMemory>
     requires { length before.now ≡ top hw.now.zones }
     ensures fresh { IfOk result (λ frames. frames ≡ fresh_memory hw.now (kept_slot hw.now before.now)) }
@@ -42,7 +42,7 @@ fn fresh_frames(alloc: Global, hw: &Hardware, before: &Frames) -> Result<Frames,
     Ok(frames)
 }
 
-/// Sets the slot table's entries: slot 0 and the slots that were bad are bad, and all others free.
+/// Sets the slot table's entries: slot 0 and the slots that were bad are bad, and all others are free.
 fn keep_bad_slots(frames: &mut Frames, hw: &Hardware, before: &Frames)
     requires before { length before.now ≡ top hw.now.zones }
     requires size { length frames.old ≡ top hw.now.zones }
@@ -56,7 +56,7 @@ fn keep_bad_slots(frames: &mut Frames, hw: &Hardware, before: &Frames)
     }
 }
 
-/// The entry of a slot in fresh memory.
+/// Returns the entry of a slot in fresh memory.
 fn kept_entry(table: &SlotTable, before: &Frames, slot: u32) -> SlotEntry
     requires slot { slot < table.now.slots }
     requires table { LiesIn before.now table.now }

@@ -1,4 +1,4 @@
--- The begin of a hibernation: why it is refused, what is counted, and what is taken.
+-- The begin of a hibernation: why it is refused, what it counts, and what it takes.
 use Rattle.std.specs.Prelude.{◌≡◌, ◌≢◌, ◌≤◌, ◌<◌, ℕ, ◌+◌, ◌-◌, List, length, map, take, All, Contains, Option, Some}
 use Rattle.std.specs.Prelude.{None, IsOk, is_some}
 use Rattle.std.specs.List.{range_with_len, find}
@@ -29,18 +29,18 @@ use Rattle.hib_core.specs.declared.hib.Hib.{Hib}
 use Rattle.hib_core.specs.declared.hib.Ending.{Ending}
 use Rattle.hib_core.specs.declared.hib.Stage.TheVariants as stage
 
--- The hibernation is refused with this reply in every running state that a machine stands for; a suspend would be with
--- the same one.
+-- The plain machine refuses the hibernation with this reply in every running state that the machine stands for. A
+-- suspend is refused with the same reply.
 abbrev pub IsRefused : Machine → Memory → Format → Reply → Type 0
 IsRefused machine frames f r =
     (c : disk.Content) (a : Running) → Stands machine.hw (running_by machine frames) c (on a) →
     refusal machine.hw (on a) (event.Hibernate f) ≡ Some r
 
--- A job that begins tells how many steps it has; every other reply to its begin refuses it.
+-- a refusal: every reply to a begin but the one that says how many steps the operation has
 abbrev pub IsRefusedWith : Reply → Type 0
 IsRefusedWith r = (k of : ℕ) → r ≢ reply.More k of
 
--- A refusal, whatever a disk tells: the page frames, free ones too, are as before, and the machine runs on.
+-- After a refusal, whatever the disk tells, all page frames are as before, free ones included, and the machine runs on.
 pub record LeavesFrames (frames frames' : Memory) (r : Reply) : Type 0 where
   pub same : frames' ≡ frames
   pub stays : phase_told r ≡ runs_on
@@ -49,12 +49,12 @@ pub record LeavesFrames (frames frames' : Memory) (r : Reply) : Type 0 where
 abbrev pub busy_of : Machine → Option ℕ
 busy_of machine = find (λ t. is_some (flights_in machine.flights t)) (range_with_len 1 64)
 
--- how many pages the stream of the image has
+-- the number of pages in the image's stream
 abbrev pub pages_of : Counts → ℕ
 pages_of counts = counts.d + meta_of counts.n + 1
 
--- A hibernation that isn't refused has counted what it saves: there is room for the copies and the image, and no copy
--- will lie in a table.
+-- A hibernation that isn't refused has counted what it saves. The copies and the image have room, and no copy will lie
+-- in a table.
 pub record IsCounted (machine : Machine) (frames : Memory) (hib : Hib) (counts : Counts) : Type 0 where
   pub idle : busy_of machine ≡ None
   pub held : machine.held ≡ No
@@ -67,17 +67,17 @@ pub record IsCounted (machine : Machine) (frames : Memory) (hib : Hib) (counts :
   pub slots : pages_of counts + 1026 ≤ length (free_in frames (slot_table_of machine.hw))
   pub reserved : AreReserved machine.hw frames
 
--- how many steps a hibernation has: the writes of the pages and of the maps, and four at the header block
+-- the number of steps of a hibernation: one per page and map, and four for the mark (sync, read, write, sync)
 abbrev pub steps_of : Counts → ℕ
 steps_of counts = pages_of counts + maps_of (pages_of counts) + 4
 
--- what an image's first page says of it
+-- the fields of the image's info page
 abbrev pub info_of : Hardware → Counts → Info
 info_of h counts =
     record { ident = h.ident; physpages = valid_count h; image_pages = counts.n; pages = pages_of counts }
 
--- The counted page frames are copied, which leaves all but the copies, and the image's writer has taken the slot of its
--- first map.
+-- The counted page frames are copied, and only the frames of the copies change. The image's writer has taken the slot
+-- of the first map.
 pub record IsTaken (machine : Machine) (frames frames' : Memory) (hib hib' : Hib) (counts : Counts)
     (last : Ending) : Type 0 where
   pub copied : Memory

@@ -1,4 +1,4 @@
--- A hibernation or a settling, and what a machine shows while it is at it.
+-- A hibernation or a settling, and what a machine shows during one.
 use Rattle.std.specs.Prelude.{◌≡◌, ℕ, List, [], Bool, true, false, None}
 use Rattle.plain_machine.specs.Machine.{Memory}
 use Rattle.plain_machine.specs.Shows.{WorldView, Activity, rests, runs, hibernates, undoes, settles, sleeps}
@@ -16,12 +16,12 @@ use Rattle.hib_core.specs.declared.hib.Saving.{Saving}
 use Rattle.hib_core.specs.declared.hib.Stage.{Stage}
 use Rattle.hib_core.specs.declared.hib.Stage.TheVariants as stage
 
--- whether a hibernation that ends so is of a suspend
+-- whether a hibernation with this ending is a suspend
 abbrev pub suspends_at : Ending → Bool
 suspends_at ending.SwitchesOff = false
 suspends_at ending.Sleeps = true
 
--- what a machine is at while it saves an image, and by the step that is next
+-- the machine's activity while it saves an image, with the number of steps made
 abbrev pub activity_saving : Saving → Activity
 activity_saving saving = hibernates (suspends_at saving.ending) saving.done
 
@@ -43,7 +43,7 @@ activity_at stage.SettleSync = settles 2
 abbrev pub activity_of : Hib → Activity
 activity_of hib = activity_at hib.stage
 
--- the header block that is kept between two calls of the disk, where one is
+-- the header block kept between two disk calls, if there is one
 abbrev pub header_at : Stage → List ℕ
 header_at (stage.Mark saving header) = header
 header_at (stage.End saving header) = header
@@ -51,7 +51,7 @@ header_at (stage.TakeBack call header) = header
 header_at (stage.SettleWrite header) = header
 header_at _ = []
 
--- Whether it has a step to make, or has none: then the machine runs, is off, or sleeps.
+-- Whether the operation has a step to make. If it has none, the machine runs, is off, or sleeps.
 pub data Phase : Type 0 where
   under_way : Phase
   runs_on : Phase
@@ -67,7 +67,7 @@ phase_at _ = under_way
 abbrev pub phase_of : Hib → Phase
 phase_of hib = phase_at hib.stage
 
--- which of these it is after this reply to a begin or a step
+-- the phase after this reply to a begin or a step
 abbrev pub phase_told : Reply → Phase
 phase_told (reply.More k of) = under_way
 phase_told (reply.Undo call k) = under_way
@@ -75,13 +75,13 @@ phase_told (reply.Hibernated n) = switched_off
 phase_told (reply.Asleep n) = asleep
 phase_told _ = runs_on
 
--- what is held after a call that may have taken it away
+-- what is held after a call that may have removed the image
 abbrev pub perhaps_held : Held → Held
 perhaps_held No = No
 perhaps_held Yes = Perhaps
 perhaps_held Perhaps = Perhaps
 
--- what is shown: the block that is kept, and the page frames of the copies
+-- what is shown during the operation, with the header block that is kept and the page frames of the copies
 abbrev pub shown_by : Machine → Memory → Hib → WorldView
 shown_by machine frames hib = record {
   activity = activity_of hib;
@@ -96,7 +96,7 @@ shown_by machine frames hib = record {
   loaded = [];
 }
 
--- what a machine that runs shows
+-- what a running machine shows
 abbrev pub running_by : Machine → Memory → WorldView
 running_by machine frames = record {
   activity = runs;
@@ -111,7 +111,7 @@ running_by machine frames = record {
   loaded = [];
 }
 
--- over a machine's zones, and at nothing
+-- over the zones of a machine, with nothing under way
 pub record IsIdle (zones : List (ℕ × ℕ)) (hib : Hib) : Type 0 where
   pub idle : hib.stage ≡ stage.Idle
   pub over : hib.snapshot.zones ≡ zones

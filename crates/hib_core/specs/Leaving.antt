@@ -1,4 +1,4 @@
--- What a hibernation or a settling leaves of the page frames, whatever its disk tells.
+-- What a hibernation or a settling does to the page frames, whatever its disk tells.
 use Rattle.std.specs.Prelude.{◌≡◌, ◌<◌, ℕ, List, length, All, Contains}
 use Rattle.definitions.specs.Bytes.{IsPage}
 use Rattle.definitions.specs.Tables.{frame, with_entries}
@@ -12,8 +12,8 @@ use Rattle.hib_core.specs.declared.hib.Job.TheVariants as job
 use Rattle.hib_core.specs.declared.hib.Stage.{Stage}
 use Rattle.hib_core.specs.declared.hib.Stage.TheVariants as stage
 
--- With the image's slots given back, every page frame that isn't free stays, the slot table included, and so does which
--- are free.
+-- With the image's slots given back, every page frame that isn't free stays the same, the slot table included, and the
+-- same page frames are free.
 abbrev pub KeepsUsed : Hardware → Memory → Memory → Type 0
 KeepsUsed h old new = IsSameMemory h (seen_frames h old) (seen_frames h new)
 
@@ -23,13 +23,13 @@ pub record TakesSlots (h : Hardware) (old new : Memory) : Type 0 where
   pub free : (s : ℕ) → Contains slots s → (s < h.slots) × (raw_slot_entry h old s ≡ 0)
   pub taken : new ≡ with_entries old h.slot_table slots image_slot
 
--- The image's slots are given back, those too that this call took, and nothing else changes.
+-- The image's slots are given back, including those that this call took, and nothing else changes.
 pub record GivesBack (h : Hardware) (old new : Memory) : Type 0 where
   pub before : Memory
   pub takes : TakesSlots h old before
   pub given : new ≡ seen_frames h before
 
--- A hibernation begins: page frames that aren't free stay, but that a slot is taken.
+-- A hibernation begins: only free page frames change, except that a slot is taken in the slot table.
 pub record BeginsImage (h : Hardware) (old new : Memory) : Type 0 where
   pub copied : Memory
   pub pages : All IsPage copied
@@ -37,13 +37,13 @@ pub record BeginsImage (h : Hardware) (old new : Memory) : Type 0 where
   pub others : (p : ℕ) → (Contains (unused h old) p → ⊥) → frame copied p ≡ frame old p
   pub takes : TakesSlots h copied new
 
--- what a job's begin leaves
+-- what the begin of a job leaves in memory
 abbrev pub LeavesAtBegin : Job → Hardware → Memory → Memory → Type 0
 LeavesAtBegin (job.Hibernate format) h old new = BeginsImage h old new
 LeavesAtBegin (job.Suspend format) h old new = BeginsImage h old new
 LeavesAtBegin job.Settle h old new = new ≡ old
 
--- what a call leaves: all as it was, with slots taken, or with the image's slots given back
+-- what a call does to memory: nothing, takes slots, or gives the image's slots back
 pub data Change : Type 0 where
   stays : Change
   takes : Change
@@ -54,13 +54,13 @@ Leaves stays h old new = new ≡ old
 Leaves takes h old new = TakesSlots h old new
 Leaves gives h old new = GivesBack h old new
 
--- a read that fails ends a hibernation, which gives its slots back; a settling leaves them
+-- a failed read ends a hibernation, which gives its slots back, or a settling, which leaves them
 abbrev pub change_at_read : Stage → Change
 change_at_read stage.SettleRead = stays
 change_at_read _ = gives
 
--- By the reply to a step: where nothing is held any more the image's slots are given back, and where an image may be
--- there they stay.
+-- what a step does to memory, by its reply: if no image is held any more its slots are given back, and if one may still
+-- exist they stay taken
 abbrev pub change_of : Reply → Stage → Change
 change_of (reply.More k of) next = takes
 change_of reply.Settled next = gives

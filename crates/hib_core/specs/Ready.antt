@@ -14,7 +14,7 @@ use Rattle.snapshot.specs.Taken.{Taken}
 use Rattle.hib_core.specs.declared.hib.Stage.{Stage}
 use Rattle.hib_core.specs.declared.hib.Stage.TheVariants as stage
 
--- something is under way
+-- an operation is under way
 abbrev pub is_busy_at : Stage → Type 0
 is_busy_at stage.Idle = ⊥
 is_busy_at stage.Over = ⊥
@@ -24,7 +24,7 @@ is_busy_at _ = ⊤
 abbrev pub IsBusy : Hib → Type 0
 IsBusy hib = is_busy_at hib.stage
 
--- a writer that makes the write after the steps that are done, of the image of these sets, on a disk of so many blocks
+-- a writer of the image of these sets that has made `saving.done` writes, over a disk of `blocks` blocks
 pub record CanWrite (h : Hardware) (blocks : ℕ) (frames : Memory) (sets : Taken) (saving : Saving)
     (writer : Writing) : Type 0 where
   pub table : writer.table ≡ slot_table_of h
@@ -35,7 +35,7 @@ pub record CanWrite (h : Hardware) (blocks : ℕ) (frames : Memory) (sets : Take
   pub copies : All (λ p. p < length frames) sets.copies
   pub reading : HasReadCopies sets.origs sets.copies sets.zeros writer
 
--- what the step that is next needs: the last four come after all writes
+-- what the next step needs: the last four steps come after all writes
 abbrev pub CanMake : Stage → Hardware → ℕ → Memory → Taken → Type 0
 CanMake (stage.Write saving writer) h blocks frames sets =
     (saving.done + 4 < saving.steps) × CanWrite h blocks frames sets saving writer
@@ -45,8 +45,8 @@ CanMake (stage.Mark saving header) h blocks frames sets = saving.done + 2 ≡ sa
 CanMake (stage.End saving header) h blocks frames sets = saving.done + 1 ≡ saving.steps
 CanMake _ h blocks frames sets = ⊤
 
--- The machine is one, with a disk of so many blocks. Memory has its page frames, the runs are those of its slot table,
--- and the header block is one of the disk's.
+-- The machine is valid, and its disk has `blocks` blocks, the header block among them. Memory has the machine's page
+-- frames, and the runs match its slot table.
 pub record CanStep (machine : Machine) (frames : Memory) (runs : SlotRuns) (hib : Hib) : Type 0 where
   pub hardware : IsHardware machine.hw
   pub few : machine.blocks < 2 ^ 32
@@ -56,14 +56,15 @@ pub record CanStep (machine : Machine) (frames : Memory) (runs : SlotRuns) (hib 
   pub header : block_of_slot machine.hw 0 < machine.blocks
   pub next : CanMake hib.stage machine.hw machine.blocks frames hib.snapshot
 
--- all but what is held stays
+-- everything but what is held stays the same
 pub record IsSameMachine (old new : Machine) : Type 0 where
   pub hw : new.hw ≡ old.hw
   pub area : new.area ≡ old.area
   pub blocks : new.blocks ≡ old.blocks
   pub flights : new.flights ≡ old.flights
 
--- A machine that can begin: it can run, and where an image is held, perhaps too, the header block is one of the disk's.
+-- A machine that can begin a job: it can run, and if it holds an image, or perhaps holds one, the header block is on
+-- the disk.
 pub record CanBegin (machine : Machine) (frames : Memory) (runs : SlotRuns) (hib : Hib) : Type 0 where
   pub run : CanRun machine frames runs
   pub zones : hib.snapshot.zones ≡ machine.hw.zones

@@ -1,4 +1,4 @@
--- The rows of the plain machine that a hibernation or a settling makes.
+-- The rows of the plain machine that a hibernation or a settling implements.
 use Rattle.std.specs.Prelude.{◌≡◌, ℕ, Contains, Option, ⊤}
 use Rattle.page_core.specs.declared.format.Format.{Format}
 use Rattle.definitions.specs.Disk as disk
@@ -25,13 +25,13 @@ use Rattle.hib_core.specs.declared.hib.Job.{Job}
 use Rattle.hib_core.specs.declared.hib.Job.TheVariants as job
 use Rattle.hib_core.specs.declared.hib.Stage.TheVariants as stage
 
--- The numbers of a hibernation are those of the image that a machine is saving.
+-- The numbers of a hibernation are those of the image that the machine is saving.
 pub record IsSavingOf (h : Hardware) (a : Running) (i : Image) (saving : Saving) : Type 0 where
   pub saved : saving.saved ≡ n_of i
   pub steps : saving.steps ≡ hibernate_steps i
   pub first : saving.first ≡ laid_block h.extents (unused_slots h a.memory) 0
 
--- so they are at each step of it, and its writer is the image's
+-- at each stage of a hibernation the numbers are the image's, and the writer is the image's
 abbrev pub IsStageOf : Stage → Hardware → Memory → Running → Image → Type 0
 IsStageOf (stage.Write saving writer) h frames a i =
     IsSavingOf h a i saving × IsWriterOf h a i saving.done frames writer
@@ -41,7 +41,7 @@ IsStageOf (stage.Mark saving header) h frames a i = IsSavingOf h a i saving
 IsStageOf (stage.End saving header) h frames a i = IsSavingOf h a i saving
 IsStageOf _ h frames a i = ⊤
 
--- The sets of a hibernation are those of the image.
+-- The sets of a hibernation are the image's.
 pub record IsOf (h : Hardware) (frames : Memory) (hib : Hib) (a : Running) (i : Image) : Type 0 where
   pub sayable : IsSayable i
   pub format : hib.snapshot.format ≡ i.format
@@ -61,13 +61,13 @@ IsOfState h frames hib (waking i held a k) = ⊤
 IsOfState h frames hib (loading load k) = ⊤
 IsOfState h frames hib (asleep i held a) = ⊤
 
--- what a machine shows while it hibernates or settles, and its disk, stand for a state, whose image it is at
+-- What the machine shows during the operation stands, with its disk, for state a. The image being saved is that of a.
 pub record HibernationStandsFor (machine : Machine) (frames : Memory) (hib : Hib) (c : disk.Content)
     (a : State) : Type 0 where
   pub stands : Stands machine.hw (shown_by machine frames hib) c a
   pub image : IsOfState machine.hw frames hib a
 
--- the row of an event over these contents of the disk, and over a disk that tells its content
+-- the row of an event for these contents of the disk, and for a disk that tells its content
 abbrev pub Simulates : Machine → Memory → Hib → Machine → Memory → Hib → Event → Reply → disk.Content → disk.Content →
     Type 0
 Simulates machine frames hib machine' frames' hib' e r c c' =
@@ -80,18 +80,18 @@ SimulatesWhereTold machine frames hib machine' frames' hib' e r before now =
     rows.SimulatesWhereTold machine.hw (HibernationStandsFor machine frames hib)
     (HibernationStandsFor machine' frames' hib') e r before now
 
--- the job that saves memory and ends so
+-- the job that saves memory and has this ending
 abbrev pub saving : Ending → Format → Job
 saving ending.SwitchesOff format = job.Hibernate format
 saving ending.Sleeps format = job.Suspend format
 
--- what a job asks the plain machine for
+-- the event of the plain machine that a job is
 abbrev pub event_of : Job → Event
 event_of (job.Hibernate format) = event.Hibernate format
 event_of (job.Suspend format) = event.Suspend format
 event_of job.Settle = event.Settle
 
--- The row of the begin of a job, by a machine that runs.
+-- the row of a job's begin, on a running machine
 abbrev pub IsBegun : Machine → Memory → Memory → Hib → Job → Reply → disk.Content → Type 0
 IsBegun machine frames frames' hib' asked r c =
     rows.Simulates machine.hw (λ held s. Stands machine.hw (running_by machine frames) held s)

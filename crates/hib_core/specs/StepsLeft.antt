@@ -1,11 +1,12 @@
--- How many steps are left at most, by the stage alone: so also over a disk that tells nothing of its content.
+-- An upper bound for the steps left. It depends on the stage only, so it holds for a disk that doesn't tell its
+-- content.
 use Rattle.std.specs.Prelude.{ℕ, ◌+◌, ◌-◌}
 use Rattle.hib_core.specs.declared.hib.Hib.{Hib}
 use Rattle.hib_core.specs.declared.hib.Saving.{Saving}
 use Rattle.hib_core.specs.declared.hib.Stage.{Stage}
 use Rattle.hib_core.specs.declared.hib.Stage.TheVariants as stage
 
--- While an image is saved: the steps that aren't made yet, and the two of an undo, which follows a mark that fails.
+-- While an image is saved: the steps not yet made, and the two of an undo, which follows a failed mark.
 abbrev pub steps_left_saving : Saving → ℕ
 steps_left_saving saving = 2 + (saving.steps - saving.done)
 
@@ -24,6 +25,6 @@ steps_left_at stage.SettleRead = 3
 steps_left_at (stage.SettleWrite header) = 2
 steps_left_at stage.SettleSync = 1
 
--- Each step of a hibernation, an undo or a settling leaves fewer, and where none is under way none are left.
+-- Each step of a hibernation, an undo or a settling leaves fewer. If none of them is under way, no steps are left.
 abbrev pub saving_steps_left : Hib → ℕ
 saving_steps_left hib = steps_left_at hib.stage

@@ -1,4 +1,4 @@
--- What a step of a hibernation's writer makes, whatever the disk tells.
+-- What a step of a hibernation's writer does, whatever the disk tells.
 use Rattle.std.specs.Prelude.{◌≡◌, ℕ, List, Option}
 use Rattle.definitions.specs.Disk.{Content, Changes}
 use Rattle.definitions.specs.Tables.{with_entries}
@@ -7,8 +7,8 @@ use Rattle.image_write.specs.Writing.{Writing, IsWriting, IsSameImage, page_next
 use Rattle.image_write.specs.Writing.{slots_of_write}
 use Rattle.snapshot.specs.Taken.{Taken}
 
--- The writer makes its next write, or fails to, from these page frames and the sets of a snapshot. The page frames have
--- the slots that it takes afterwards.
+-- The writer makes its next write, or fails to, from these page frames and a snapshot's sets. The slots that it takes
+-- are then marked as the image's in the slot table.
 pub record Writes (R : ℕ × List ℕ → Content → Content →
     Type 0) (frames frames' : Memory) (sets : Taken) (writer writer' : Writing)
     (before now : Option Content) : Type 0 where

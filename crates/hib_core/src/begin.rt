@@ -25,7 +25,8 @@ use saveable::View;
 use snapshot::Counts;
 use swap_slots::FreeRuns;
 
-/// Free slots that are left after an image and the block of its first map (PAGES_FOR_IO, kernel/power/power.h).
+/// Free slots needed besides one per page of the image: PAGES_FOR_IO (kernel/power/power.h), one more, and the slot of
+/// the first map.
 const SLOTS_LEFT: u32 = 1026;
 
 // The begin of a hibernation (hibernation_snapshot, kernel/power/hibernate.c; enough_swap, kernel/power/swap.c).
@@ -37,8 +38,8 @@ impl Hib {
     ghost use Rattle.hib_core.specs.Row.{IsBegun, saving};
     ghost use Rattle.hib_core.specs.declared.hib.Stage.TheVariants as stage;
 
-    /// Begins a job, or refuses it and changes nothing. Saveable page frames are copied into free ones. No call of a
-    /// disk is made.
+    /// Begins a job, or refuses it and changes nothing. A hibernation copies the saveable page frames into free ones.
+    /// Makes no disk call.
     pub fn begin(
         &mut self,
         machine: &mut Machine,
@@ -70,7 +71,7 @@ impl Hib {
         }
     }
 
-    /// Begins a hibernation that ends so, or refuses it.
+    /// Begins a hibernation with the given `ending`, or refuses it.
     fn hibernate(
         &mut self,
         machine: &Machine,
@@ -92,7 +93,7 @@ impl Hib {
         ensures refused { IsRefusedWith result → LeavesFrames frames.old frames.new result }
         ensures memory { BeginsImage machine.now.hw frames.old frames.new ⊎ (frames.new ≡ frames.old) }
     {
-        // Only what is read is known to have the size of its type.
+        // The prover knows the bounds of a field's type only once the field is read.
         let _blocks = machine.blocks;
         let _zones = machine.hw.zones();
         self.stage = Stage::Idle;
@@ -102,7 +103,7 @@ impl Hib {
         }
     }
 
-    /// Tests a hibernation, in the order of its refusals, and counts what it saves.
+    /// Checks the reasons to refuse a hibernation, in their order, and counts what it saves.
     fn accept(
         &mut self,
         machine: &Machine,
@@ -154,7 +155,7 @@ impl Hib {
         Ok(counts)
     }
 
-    /// Copies the pages, and takes the slot of the first map.
+    /// Copies the pages, and takes the slot of the first map. Returns the reply that begins the hibernation.
     fn take(
         &mut self,
         machine: &Machine,
@@ -170,7 +171,7 @@ impl Hib {
         ensures matches { Matches frames.new (slot_table_of machine.now.hw) runs.new }
         ensures size { length frames.new ≡ length frames.old }
     {
-        // Only what is read is known to have the size of its type.
+        // The prover knows the bounds of a field's type only once the field is read.
         let _blocks = machine.blocks;
         let (zones, table) = (machine.hw.zones(), machine.hw.frame_table());
         self.snapshot.copy(frames, zones, table);
@@ -190,7 +191,7 @@ impl Hib {
     }
 }
 
-/// How many pages the image has: the info page, those of the numbers, and those with data.
+/// Returns the number of pages in the image: the info page, the number pages and the data pages.
 fn pages_of(counts: Counts) -> u32
     requires saved { counts.n ≤ 65536 }
     requires some { counts.d ≤ counts.n }
@@ -199,7 +200,7 @@ fn pages_of(counts: Counts) -> u32
     counts.d + counts.n.div_ceil(512) + 1
 }
 
-/// How many steps a hibernation has: the writes of the pages and of the maps, and four at the header block.
+/// Returns the number of steps of a hibernation: one per page and map, and four for the mark (sync, read, write, sync).
 fn steps_of(counts: Counts) -> u32
     requires saved { counts.n ≤ 65536 }
     requires some { counts.d ≤ counts.n }
@@ -209,7 +210,7 @@ fn steps_of(counts: Counts) -> u32
     pages + pages / 511 + 1 + 4
 }
 
-/// What the image's first page says of it.
+/// Returns the fields of the image's info page.
 fn info_of(hw: &Hardware, counts: Counts) -> Info
     requires saved { counts.n ≤ 65536 }
     requires some { counts.d ≤ counts.n }

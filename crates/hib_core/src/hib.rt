@@ -13,14 +13,14 @@ use snapshot::Snapshot;
 use std::alloc::Global;
 use swap_slots::FreeRuns;
 
-/// What is begun.
+/// An operation that `Hib` can begin.
 #[derive(Clone, Copy)]
 pub enum Job {
-    /// Memory is saved, and the machine switched off.
+    /// Saves memory and switches the machine off.
     Hibernate(Format),
-    /// Memory is saved, and the machine sleeps with all of it kept.
+    /// Saves memory and puts the machine to sleep with all of its memory kept.
     Suspend(Format),
-    /// The mark of a held image is taken back while the machine runs.
+    /// Takes the mark of a held image back while the machine runs.
     Settle,
 }
 
@@ -35,47 +35,47 @@ pub(crate) enum Ending {
 #[derive(Clone, Copy, Debug, PartialEq, Eq)]
 pub(crate) struct Saving {
     pub(crate) ending: Ending,
-    /// How many page frames are saved.
+    /// The number of saved page frames.
     pub(crate) saved: u32,
     /// The block of the first map.
     pub(crate) first: u32,
-    /// Steps made, and steps in all.
+    /// Steps made so far; `steps` is the number of steps in all.
     pub(crate) done: u32,
     pub(crate) steps: u32,
 }
 
-/// What is done next, with what it is done with.
+/// The step to make next, with the data that it needs.
 #[derive(Drop)]
 pub(crate) enum Stage {
-    /// Nothing: the machine runs.
+    /// No step: the machine runs.
     Idle,
-    /// Nothing: the image is on the disk, and the machine is off.
+    /// No step: the image is on the disk, and the machine is off.
     Over,
-    /// Nothing: the image is on the disk, and the machine sleeps.
+    /// No step: the image is on the disk, and the machine sleeps.
     Asleep,
-    /// A page or a map is written.
+    /// The write of the next page or map.
     Write(Saving, Writer),
-    /// What was written is synced.
+    /// The sync of the pages and maps.
     Sync(Saving),
-    /// The header block is read.
+    /// The read of the header block.
     Read(Saving),
-    /// The header block is written with the mark.
+    /// The write of the header block with the mark.
     Mark(Saving, Page),
-    /// The mark is synced.
+    /// The sync of the mark.
     End(Saving, Page),
-    /// After a call that failed, the marked header block is written taken back.
+    /// In an undo, after a failed call: the write of the header block with the mark taken back.
     TakeBack(UndoCall, Page),
-    /// That is synced.
+    /// In an undo: the sync of the cleared mark. No image exists after it.
     EndUndo(UndoCall),
-    /// Of a settling: the header block is read.
+    /// In a settling: the read of the header block.
     SettleRead,
-    /// It is written taken back.
+    /// In a settling: the write of the header block with the mark taken back.
     SettleWrite(Page),
-    /// That is synced.
+    /// In a settling: the sync of the cleared mark. No image exists after it.
     SettleSync,
 }
 
-/// A hibernation or a settling, or none. It takes all its memory when it is created.
+/// A hibernation, a settling, or neither. All its memory is allocated when it is created.
 #[derive(Drop)]
 pub struct Hib {
     pub(crate) snapshot: Snapshot,
@@ -83,7 +83,7 @@ pub struct Hib {
 }
 
 impl Saving {
-    /// A step is made.
+    /// Returns these numbers after one more step.
     pub(crate) fn after_step(self) -> Saving
         requires { self.done < self.steps }
         ensures { result ≡ record self { done = self.done + 1 } }
@@ -94,7 +94,7 @@ impl Saving {
         }
     }
 
-    /// What is told of it.
+    /// Returns the reply to a step after which more follow.
     pub(crate) fn more(self) -> Reply
         ensures { result ≡ reply.More self.done self.steps }
     {
@@ -115,7 +115,7 @@ impl Hib {
     ghost use Rattle.hib_core.specs.Row.{SimulatesWhereTold};
     ghost use Rattle.hib_core.specs.StepsLeft.{saving_steps_left};
 
-    /// No hibernation, with the memory for every one of this machine.
+    /// Creates an idle `Hib` with enough memory for every hibernation of this machine.
     pub fn create(alloc: Global, hw: &Hardware) -> Result<Hib, NoMemory>
         ensures { IfOk result (IsIdle hw.now.zones) }
     {
@@ -126,7 +126,7 @@ impl Hib {
         })
     }
 
-    /// Makes the next step: at most one call of the disk.
+    /// Makes the next step, with one call of the disk.
     pub fn step<D: Disk>(
         &mut self,
         machine: &mut Machine,

@@ -28,7 +28,8 @@ impl Hib {
     ghost use Rattle.hib_core.specs.Row.{SimulatesWhereTold};
     ghost use Rattle.hib_core.specs.StepsLeft.{saving_steps_left};
 
-    /// Writes the header block with the mark. Where that fails the mark may be there or not: an undo begins.
+    /// Writes the header block with the mark. If that fails, the mark may or may not be on the disk, and an undo
+    /// begins.
     pub(crate) fn write_mark<D: Disk>(
         &mut self,
         machine: &Machine,
@@ -65,7 +66,8 @@ impl Hib {
         }
     }
 
-    /// Syncs the mark: the hibernation is over, and of a suspend the machine sleeps.
+    /// Syncs the mark. This ends the hibernation: the machine is off, or sleeps after a suspend. If the sync fails, an
+    /// undo begins.
     pub(crate) fn sync_mark<D: Disk>(
         &mut self,
         machine: &Machine,
@@ -104,7 +106,7 @@ impl Hib {
         }
     }
 
-    /// The mark may be there or not: the block with it is kept, to be taken back.
+    /// Begins an undo, as the mark may be on the disk: keeps the marked header block, to take the mark back.
     fn begin_undo(&mut self, call: UndoCall, marked: Page) -> Reply
         ensures hib { self.new ≡ record self.old { stage = stage.TakeBack call marked } }
         ensures reply { result ≡ reply.Undo call 0 }
@@ -114,7 +116,7 @@ impl Hib {
     }
 }
 
-/// The flags of the mark.
+/// Returns the flags of the mark.
 fn flags(snapshot: &Snapshot) -> u32
     ensures { result ≡ mark_flags snapshot.now.format }
 {

@@ -17,11 +17,11 @@ use sector_disk::Disk;
 use sig_header::{AreaKind, take_back};
 use swap_slots::FreeRuns;
 
-/// Steps of a settling: a read, a write and a sync.
+/// The number of steps of a settling: a read, a write and a sync.
 const STEPS: u32 = 3;
 
-// Settling: the mark of a held image is taken back while the machine runs (swsusp_unmark, kernel/power/swap.c; own as a
-// job by itself).
+// Settling: takes the mark of a held image back while the machine runs (swsusp_unmark, kernel/power/swap.c; that it is
+// a job by itself is own).
 impl Hib {
     ghost use Rattle.plain_machine.specs.declared.event.Event.TheVariants as event;
     ghost use Rattle.plain_machine.specs.declared.event.Actor.TheVariants as actor;
@@ -34,7 +34,7 @@ impl Hib {
     ghost use Rattle.hib_core.specs.Row.{SimulatesWhereTold, IsBegun};
     ghost use Rattle.hib_core.specs.StepsLeft.{saving_steps_left};
 
-    /// Begins a settling, or refuses it where a task has an unfinished operation, or nothing is held.
+    /// Begins a settling. Refuses it if a task has an unfinished operation, or if no image is held.
     pub(crate) fn settle(&mut self, machine: &Machine, frames: &Frames, runs: &FreeRuns) -> Reply
         requires ready { CanBegin machine.now frames.now runs.now self.old }
         ensures row { (c : Content) → IsBegun machine.now frames.now frames.now self.new job.Settle result c }
@@ -45,7 +45,7 @@ impl Hib {
         ensures no_fault { TellsNewFault result → ⊥ }
         ensures refused { IsRefusedWith result → LeavesFrames frames.now frames.now result }
     {
-        // Only what is read is known to have the size of its type.
+        // The prover knows the bounds of a field's type only once the field is read.
         let _blocks = machine.blocks;
         let _zones = machine.hw.zones();
         if let Some(task) = machine.busy() {
@@ -60,7 +60,7 @@ impl Hib {
         Reply::More { k: 0, of: STEPS }
     }
 
-    /// Reads the header block. Where that fails the machine runs as it ran.
+    /// Reads the header block. If that fails, the machine runs on as before.
     pub(crate) fn settle_read<D: Disk>(
         &mut self,
         machine: &Machine,
@@ -95,7 +95,7 @@ impl Hib {
         }
     }
 
-    /// Writes it taken back where it is marked, and as it is where it isn't.
+    /// Writes the header block with its mark taken back, or unchanged if it carries none.
     pub(crate) fn settle_write<D: Disk>(
         &mut self,
         machine: &mut Machine,
@@ -135,7 +135,7 @@ impl Hib {
         }
     }
 
-    /// Syncs that: no image is there any more, and its slots are free.
+    /// Syncs the cleared mark. From here on no image exists, and its slots are free.
     pub(crate) fn settle_sync<D: Disk>(
         &mut self,
         machine: &mut Machine,
@@ -170,7 +170,7 @@ impl Hib {
         }
     }
 
-    /// The image may still be there: the machine runs, with that known, and the image's slots stay taken.
+    /// Ends the settling when the image may still exist: records that it is perhaps held, and leaves its slots taken.
     fn stop_unsure(&mut self, machine: &mut Machine)
         ensures hib { self.new ≡ record self.old { stage = stage.Idle } }
         ensures machine { machine.new ≡ record machine.old { held = perhaps_held machine.old.held } }
@@ -180,7 +180,7 @@ impl Hib {
     }
 }
 
-/// Takes a header block back, where it is marked.
+/// Takes the mark of a header block back, if it carries one.
 fn unmark(header: &mut Page)
     ensures { header.new ≡ unmarked_block header.old }
 {
@@ -189,14 +189,14 @@ fn unmark(header: &mut Page)
     }
 }
 
-/// Whether a header block carries the signature of an image.
+/// Returns whether a header block carries the signature of an image.
 fn is_marked(header: &Page) -> bool
     ensures { result ≡ pointwise nat_eq (sig_of header.now) image_signature }
 {
     matches!(AreaKind::read(header), AreaKind::Image(_))
 }
 
-/// What is held, after a call that may have taken it away.
+/// Returns what is held after a call that may have removed the image.
 fn perhaps(held: Held) -> Held
     ensures { result ≡ perhaps_held held }
 {

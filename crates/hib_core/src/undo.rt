@@ -15,7 +15,7 @@ use sector_disk::Disk;
 use sig_header::take_back;
 use swap_slots::FreeRuns;
 
-// Undoing a mark whose write or sync has failed (swsusp_unmark, kernel/power/swap.c).
+// Undoing a mark whose write or sync failed (swsusp_unmark, kernel/power/swap.c).
 impl Hib {
     ghost use Rattle.plain_machine.specs.declared.event.Event.TheVariants as event;
     ghost use Rattle.plain_machine.specs.declared.event.Actor.TheVariants as actor;
@@ -27,7 +27,7 @@ impl Hib {
     ghost use Rattle.hib_core.specs.Row.{SimulatesWhereTold};
     ghost use Rattle.hib_core.specs.StepsLeft.{saving_steps_left};
 
-    /// Writes the header block taken back.
+    /// Writes the header block with the mark taken back.
     pub(crate) fn take_back<D: Disk>(
         &mut self,
         machine: &mut Machine,
@@ -66,7 +66,7 @@ impl Hib {
         }
     }
 
-    /// Syncs that: no image is there any more, and the machine runs.
+    /// Syncs the cleared mark. From here on no image exists, its slots are free, and the machine runs.
     pub(crate) fn end_undo<D: Disk>(
         &mut self,
         call: UndoCall,
@@ -99,7 +99,7 @@ impl Hib {
         }
     }
 
-    /// The image may be there: the machine runs, with that known.
+    /// Ends the undo when the image may still exist: the machine runs, and records that an image is perhaps held.
     fn leave_unsure(&mut self, machine: &mut Machine, call: UndoCall) -> Reply
         ensures hib { self.new ≡ record self.old { stage = stage.Idle } }
         ensures machine { machine.new ≡ record machine.old { held = Perhaps } }
@@ -112,7 +112,7 @@ impl Hib {
     }
 }
 
-/// The fault of the call that the undo began with.
+/// Returns the fault of the call whose failure began the undo.
 fn undone(call: UndoCall, left: Left) -> Reply
     ensures reply { result ≡ undone_fault call left }
     ensures works { is_idle result ≡ false }

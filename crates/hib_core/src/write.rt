@@ -26,7 +26,7 @@ use sig_header::AreaKind;
 use snapshot::Snapshot;
 use swap_slots::FreeRuns;
 
-// The writes of pages and maps, and what follows them up to the mark (save_image and swap_writer_finish,
+// The writes of the pages and maps, and the steps from there to the mark (save_image and swap_writer_finish,
 // kernel/power/swap.c).
 impl Hib {
     ghost use Rattle.plain_machine.specs.declared.event.Event.TheVariants as event;
@@ -80,7 +80,7 @@ impl Hib {
         }
     }
 
-    /// Syncs the pages and maps, before the header block is marked.
+    /// Syncs the pages and maps, so that they are on the disk before the header block is marked.
     pub(crate) fn sync_pages<D: Disk>(
         &mut self,
         saving: Saving,
@@ -115,7 +115,7 @@ impl Hib {
         }
     }
 
-    /// Reads the header block, which must still be that of an area that isn't marked.
+    /// Reads the header block, which must still be that of an unmarked area.
     pub(crate) fn read_header<D: Disk>(
         &mut self,
         saving: Saving,
@@ -159,7 +159,7 @@ impl Hib {
         }
     }
 
-    /// The hibernation ends here: the image's slots are given back, and the machine runs.
+    /// Ends the hibernation: gives the image's slots back, and the machine runs.
     pub(crate) fn give_up(&mut self, machine: &Machine, frames: &mut Frames, runs: &mut FreeRuns)
         requires table { LiesIn frames.old (slot_table_of machine.now.hw) }
         requires matches { Matches frames.old (slot_table_of machine.now.hw) runs.old }
@@ -175,7 +175,7 @@ impl Hib {
     }
 }
 
-/// A step of the writer, from the sets of the snapshot.
+/// Makes a step of the writer with the snapshot's sets.
 fn write_step<D: Disk>(
     writer: &mut Writer,
     snapshot: &Snapshot,
@@ -210,7 +210,7 @@ fn write_step<D: Disk>(
     writer.step(frames, runs, disk, &sets)
 }
 
-/// Why a header block isn't that of a version 1 area, if it isn't.
+/// Returns why a header block isn't that of a version 1 area, if it isn't.
 fn not_swap(header: &Page) -> Option<NoSwap>
     ensures { result ≡ kind_fault (area_kind header.now) }
 {

@@ -16,7 +16,7 @@ use Rattle.image_check.specs.Info.{counts_in, info_findings}
 use Rattle.image_check.specs.Numbers.{data_words, number_findings}
 use Rattle.image_check.specs.Told.{list_of}
 
--- which page of the image the next entry names: 0 is the info page
+-- the position in the image of the page that the next entry names: 0 is the info page
 abbrev pub position_of : List Name → ℕ
 position_of h = 511 * (maps_in h - 1) + (511 - left_in h)
 
@@ -37,14 +37,14 @@ abbrev pub last_word : Result (List ℕ) BlockFault → Option ℕ
 last_word (Ok page) = Some (word page 511)
 last_word (Err why) = None
 
--- the last word of the page before, where that is no info page
+-- the last word of the previous page, unless that is the info page
 abbrev pub previous_of : List Name → Option ℕ
 previous_of [] = None
 previous_of (map_at b answer ∷ h) = previous_of h
 previous_of (page_at b answer ∷ h) = if position_of h == 0 then None else last_word answer
 
--- How many numbers of the number pages have a data page, so far; not known once one of these pages wasn't read. The
--- count stays at its last value.
+-- How many numbers on the number pages have a data page, so far; unknown once one of these pages wasn't read. The count
+-- saturates.
 abbrev pub counted_with : Option ℕ → Option ℕ → Option ℕ
 counted_with None more = None
 counted_with (Some d) None = None
@@ -65,7 +65,7 @@ data_of [] = Some 0
 data_of (map_at b answer ∷ h) = data_of h
 data_of (page_at b answer ∷ h) = data_after (counts_of h) (position_of h) (data_of h) answer
 
--- no page is wanted: the image has no more, or, where it isn't known how many it has, none is named
+-- no page is wanted: the image has no more, or, if its number of pages isn't known, none is named
 abbrev pub is_unused : Option Counts → (position b : ℕ) → Bool
 is_unused None position b = nat_lt 0 position && (b == 0)
 is_unused (Some c) position b = nat_le c.pages position
@@ -80,7 +80,7 @@ entry_fault counts position place b answer =
     if is_unused counts position b then (if b == 0 then None else Some (finding.AfterPages place b))
     else wanted_fault place answer
 
--- what is wrong with a page of the image: after the info page come the number pages, and after these the saved pages
+-- what is wrong with a page of the image: the info page is followed by the number pages, and these by the saved pages
 abbrev pub listed_findings : Format → Option Counts → ℕ → Option ℕ → List ℕ → List Finding
 listed_findings format None position previous page = []
 listed_findings format (Some c) position previous page =
@@ -96,8 +96,8 @@ read_findings format counts position b previous (Err why) = []
 read_findings format counts position b previous (Ok page) =
     if is_unused counts position b then [] else page_findings format counts position previous page
 
--- After the last number page: where pages of zeros have no data page, the pages are counted by the numbers that have
--- one.
+-- After the last number page: if pages of zeros have no data page, the number of pages must follow from the numbers
+-- that have one.
 abbrev pub data_fault : Format → Option Counts → ℕ → Option ℕ → Option Finding
 data_fault Plain counts position counted = None
 data_fault SkipZeros None position counted = None
@@ -115,12 +115,12 @@ abbrev pub ends_fault : Option Counts → ℕ → Option Finding
 ends_fault None maps = None
 ends_fault (Some c) maps = if nat_lt (511 * maps) c.pages then Some (finding.Ends maps c.pages) else None
 
--- A writer makes a map for each 511 pages, and one more (swap_write_page).
+-- A writer makes one map for each full 511 pages, and one more (swap_write_page).
 abbrev pub after_fault : Option Counts → (map b : ℕ) → Option Finding
 after_fault None map b = None
 after_fault (Some c) map b = if nat_lt (c.pages / 511 + 1) map then Some (finding.AfterMaps map b) else None
 
--- What is wrong with the block that is named as a map. No block is named after the last one.
+-- What is wrong with the block that is named as a map. The last map names no block.
 abbrev pub map_fault : {A : Type 0} → Option Counts → (map b : ℕ) → Result A BlockFault → Option Finding
 map_fault counts map b (Ok page) = after_fault counts map b
 map_fault counts map b (Err why) =

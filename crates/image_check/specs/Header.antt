@@ -1,5 +1,4 @@
--- What a header block with the mark of an image (struct swsusp_header, kernel/power/swap.c) says, and what is wrong
--- with it.
+-- What the header block of an image (struct swsusp_header, kernel/power/swap.c) says, and what is wrong with it.
 use Rattle.std.specs.Prelude.{ℕ, ◌/◌, ◌%◌, ◌==◌, ◌&&◌, Bool, List, ◌++◌, nat_le, replicate, if◌then◌else◌, Option, Some}
 use Rattle.std.specs.Prelude.{None}
 use Rattle.definitions.specs.SwapHeader.{taken_back}
@@ -12,9 +11,9 @@ use Rattle.image_check.specs.declared.finding.Finding.{Finding}
 use Rattle.image_check.specs.declared.finding.Finding.TheVariants as finding
 use Rattle.image_check.specs.Told.{list_of}
 
--- What is wrong with the area that the header describes once it is taken back. No kernel swaps on an area of version 0
--- (SWAP-SPACE), in whose header other bytes stand for the last page. Only of an area from block 0 on it is known where
--- it ends.
+-- What is wrong with the area that the header describes once its mark is taken back. No kernel swaps on an area of
+-- version 0 (SWAP-SPACE), whose header has other bytes in the place of the last page. The end is known only of an area
+-- that begins at block 0.
 abbrev pub area_fault : ℕ → ℕ → AreaKind → Option Finding
 area_fault blocks header (kind.Image mark) = Some finding.OriginalSignature
 area_fault blocks header kind.Old = Some (finding.Area (fault.Version 0))
@@ -23,7 +22,7 @@ area_fault blocks header (kind.BadArea why) = Some (finding.Area why)
 area_fault blocks header (kind.Swap area) =
     if (header == 0) && nat_le blocks area.last then Some (finding.LastPage area.last blocks) else None
 
--- which blocks the image may name: those of an area from block 0 on, else those of the file
+-- the blocks that the image may name: those of an area that begins at block 0, else all blocks of the file
 abbrev pub any_block : ℕ → ℕ → Limits
 any_block blocks header = record { blocks = blocks; header = header; last = 4294967295; bad = replicate 630 0 }
 

@@ -15,13 +15,13 @@ use Rattle.image_check.specs.Told.{list_of, each_below}
 abbrev pub counts_in : List ℕ → Counts
 counts_in page = record { image_pages = number_at 8 page 416; pages = number_at 8 page 424 }
 
--- name j of the six has an end
+-- name j of the six has a zero byte
 abbrev pub name_fault : List ℕ → ℕ → Option Finding
 name_fault page j = if list_any (λ b. b == 0) (bytes_at 65 page (65 * j)) then None else Some (finding.NoEnd j)
 
--- The header of an architecture, in the place of the names and without a version code: an x86-64 one has its magic
--- number in word 3 (struct restore_data_record, arch/x86/power/hibernate.c), others begin with the kernel's version as
--- a text (struct arch_hibernate_hdr, arch/arm64/kernel/hibernate.c).
+-- An architecture's own header stands in the place of the names, without a version code: x86-64's has its magic number
+-- in word 3 (struct restore_data_record, arch/x86/power/hibernate.c), others begin with the kernel's version as text
+-- (struct arch_hibernate_hdr, arch/arm64/kernel/hibernate.c).
 abbrev pub is_version_text : List ℕ → Bool
 is_version_text text =
     nat_lt 0 (length text) && nat_lt (length text) 65 && list_all (λ b. nat_le 32 b && nat_le b 126) text
@@ -38,7 +38,7 @@ abbrev pub identity_findings : List ℕ → List Finding
 identity_findings page =
     if number_at 4 page 392 == 0 then list_of (magic_fault page) else each_below (name_fault page) 6
 
--- pages is the number of data pages and number pages, and one more; without pages of zeros there may be fewer
+-- pages counts the data pages, the number pages and the info page; if pages of zeros are skipped, there may be fewer
 abbrev pub follows : Format → Counts → Bool
 follows Plain c = c.pages == c.image_pages + (meta_of c.image_pages + 1)
 follows SkipZeros c =
@@ -48,7 +48,7 @@ abbrev pub counts_fault : Format → Counts → Option Finding
 counts_fault format c =
     if (c.image_pages == 0) || not (follows format c) then Some (finding.Counts c.image_pages c.pages) else None
 
--- size is that of the pages
+-- size is the number of bytes of the pages
 abbrev pub size_fault : ℕ → ℕ → Option Finding
 size_fault size pages = if size == pages * 4096 then None else Some (finding.Size size pages)
 

@@ -1,4 +1,4 @@
--- The lines that are printed of findings.
+-- The lines that are printed for findings.
 use Rattle.std.specs.Prelude.{ℕ, List, [], ◌++◌, codes, decimal, flat_map}
 use Rattle.byteorder.specs.Endian.{big_bytes}
 use Rattle.plain_machine.specs.Replies.{hex_text}

@@ -10,7 +10,7 @@ use Rattle.image_check.specs.declared.finding.Finding.{Finding}
 use Rattle.image_check.specs.declared.finding.Finding.TheVariants as finding
 use Rattle.image_check.specs.Told.{each_below}
 
--- how many words of a number page are numbers, of n in the image, that have a data page: bit 63 isn't set
+-- how many words of a number page are numbers with a data page (bit 63 isn't set), in an image with n numbers
 abbrev pub data_words : (n page : ℕ) → List ℕ → ℕ
 data_words n page bytes =
     length (filter (λ i. nat_lt (512 * (page - 1) + i) n && nat_lt (word bytes i) zero_bit) (range_with_len 0 512))
@@ -20,7 +20,7 @@ abbrev pub frame_of : Format → ℕ → ℕ
 frame_of Plain w = w
 frame_of SkipZeros w = number_of_word w
 
--- a number is above the one before, which is known unless its page wasn't read
+-- a number is above the one before it, which is known unless its page wasn't read
 abbrev pub order_fault : Format → (page i w : ℕ) → Option ℕ → Option Finding
 order_fault format page i w None = None
 order_fault format page i w (Some before) =
@@ -36,7 +36,7 @@ number_fault format page i w before =
 abbrev pub end_fault : (page i w : ℕ) → Option Finding
 end_fault page i w = if w == end_value then None else Some (finding.End page i w)
 
--- Word i of a number page, of an image with n numbers, which are in the first words; the end value follows.
+-- Word i of a number page of an image with n numbers: the first n words are the numbers, and the end value follows.
 abbrev pub word_fault : Format → (n page i w : ℕ) → Option ℕ → Option Finding
 word_fault format n page i w before =
     if nat_lt (512 * (page - 1) + i) n then number_fault format page i w before

@@ -21,7 +21,7 @@ use sector_disk::Disk;
 use sig_header::{AreaKind, Mark, SF_SKIPS_ZEROS};
 use std::alloc::Global;
 
-/// What there was to check.
+/// Whether there was an image to check.
 #[derive(Clone, Copy, Debug, PartialEq, Eq)]
 pub enum Outcome {
     /// The header block, if the disk has it, isn't marked.
@@ -29,9 +29,9 @@ pub enum Outcome {
     Checked,
 }
 
-/// Checks the image of the area whose header lies in a block, and tells each finding in the order in which the image is
-/// read. It goes on after a finding as far as the bytes allow, and reads each block once. It takes memory of a bit for
-/// each block of the disk.
+/// Checks the image of the area whose header lies in block `header`, and reports each finding in the order in which the
+/// image is read. The check continues after a finding as far as the bytes allow, and reads each block once. It takes
+/// memory of one bit for each block of the disk.
 pub fn check<D: Disk, R: Report>(
     alloc: Global,
     disk: &mut D,
@@ -62,7 +62,7 @@ pub fn check<D: Disk, R: Report>(
     Ok(Outcome::Checked)
 }
 
-/// The mark of an image, where the header block has one.
+/// Returns the mark of an image, if the header block has one.
 pub fn mark_in(kind: AreaKind) -> Option<Mark>
     ensures { result ≡ mark_in kind }
 {
@@ -75,7 +75,7 @@ pub fn mark_in(kind: AreaKind) -> Option<Mark>
     }
 }
 
-/// Checks an image by its marked header block.
+/// Checks an image, given its marked header block.
 fn check_image<D: Disk, R: Report>(
     alloc: Global,
     disk: &mut D,
@@ -104,7 +104,7 @@ fn check_image<D: Disk, R: Report>(
     Ok(())
 }
 
-/// How an image with these flags saves pages of zeros.
+/// Returns how an image with these flags saves pages of zeros.
 pub fn format_of(flags: u32) -> Format
     ensures { result ≡ format_of flags }
 {
@@ -115,7 +115,7 @@ pub fn format_of(flags: u32) -> Format
     }
 }
 
-/// Reads the blocks that an image names to the end of its chain, and tells what is wrong with each.
+/// Reads the blocks that an image names to the end of its chain, and reports what is wrong with each.
 fn check_names<D: Disk, R: Report>(
     disk: &mut D,
     walker: &mut Walker,

@@ -22,7 +22,7 @@ use page_core::{Format, Page};
 /// How many entries a map page has (MAP_PAGE_ENTRIES).
 const ENTRIES: u64 = 511;
 
-/// Tells what is wrong with a name that follows those that led to `progress`, and with the page that was read.
+/// Reports what is wrong with a name that follows those that led to `progress`, and with the page that was read.
 pub fn check_name<R: Report>(
     report: &mut R,
     format: Format,
@@ -61,7 +61,7 @@ pub fn check_name<R: Report>(
     }
 }
 
-/// What is wrong with the block that is named as a map.
+/// Returns what is wrong with the block that is named as a map.
 fn map_fault(
     counts: Option<Counts>,
     map: u32,
@@ -100,7 +100,7 @@ fn ends_fault(counts: Counts, map: u32) -> Option<Finding>
     }
 }
 
-/// What is wrong with the block that an entry names.
+/// Returns what is wrong with the block that an entry names.
 fn entry_fault(
     counts: Option<Counts>,
     position: u64,
@@ -119,7 +119,7 @@ fn entry_fault(
     }
 }
 
-/// Whether no page is wanted at a position.
+/// Returns whether no page is wanted at a position.
 fn is_unused(counts: Option<Counts>, position: u64, block: u64) -> bool
     ensures { result ≡ is_unused counts position block }
 {
@@ -129,7 +129,7 @@ fn is_unused(counts: Option<Counts>, position: u64, block: u64) -> bool
     }
 }
 
-/// Tells what is wrong with a page that was read, and with the number of data pages where it is the last number page.
+/// Reports what is wrong with a page that was read, and, after the last number page, with the number of data pages.
 fn check_page<R: Report>(
     report: &mut R,
     format: Format,
@@ -152,7 +152,7 @@ fn check_page<R: Report>(
     );
 }
 
-/// Tells what is wrong with a page that was read.
+/// Reports what is wrong with a page that was read.
 fn check_read<R: Report>(
     report: &mut R,
     format: Format,
@@ -176,7 +176,7 @@ fn check_read<R: Report>(
     }
 }
 
-/// Tells what is wrong with a page after the info page.
+/// Reports what is wrong with a page after the info page.
 fn check_listed<R: Report>(
     report: &mut R,
     format: Format,
@@ -199,7 +199,7 @@ fn check_listed<R: Report>(
     }
 }
 
-/// What is known after an entry.
+/// Returns what is known after an entry.
 fn after_entry(
     progress: Progress,
     position: u64,
@@ -229,7 +229,7 @@ fn after_entry(
     }
 }
 
-/// How many numbers have a data page, after a page.
+/// Returns how many of the numbers up to and including a page have a data page.
 fn data_after(
     progress: &Progress,
     position: u64,
@@ -249,7 +249,7 @@ fn data_after(
     counted_with(progress.counted, seen)
 }
 
-/// How many numbers of a number page have a data page, if it was read.
+/// Returns how many numbers of a number page have a data page, if it was read.
 fn data_seen(
     numbers: u64,
     position: u64,
@@ -265,14 +265,14 @@ fn data_seen(
     }
 }
 
-/// The sum of two counts that are known.
+/// Returns the sum of two counts, if both are known.
 fn counted_with(counted: Option<u64>, more: Option<u64>) -> Option<u64>
     ensures { result ≡ counted_with counted more }
 {
     Some(counted?.saturating_add(more?))
 }
 
-/// What is wrong with the number of data pages, which is known after the last number page.
+/// Returns what is wrong with the number of data pages, which is known after the last number page.
 fn data_fault(
     format: Format,
     counts: Option<Counts>,
@@ -301,7 +301,7 @@ fn zeros_fault(counts: Counts, position: u64, counted: u64) -> Option<Finding>
     }
 }
 
-/// Whether so many pages are the info page, the number pages and the data pages.
+/// Returns whether `pages` is the sum of the info page, the number pages and the data pages.
 fn follows(pages: u64, data_pages: u64, number_pages: u64) -> bool
     requires { number_pages < 2 ^ 63 }
     ensures { result ≡ (pages == data_pages + (number_pages + 1)) }

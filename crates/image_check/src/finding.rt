@@ -7,7 +7,7 @@ use sig_header::AreaFault;
 pub struct Counts {
     /// How many page frames were saved (`image_pages`).
     pub image_pages: u64,
-    /// How many pages the image has, the info page and the number pages among them (`pages`).
+    /// How many pages the image has, including the info page and the number pages (`pages`).
     pub pages: u64,
 }
 
@@ -23,13 +23,13 @@ pub struct Place {
 /// What is wrong with an image. Number pages count from 1, their words from 0.
 #[derive(Clone, Copy, Debug, PartialEq, Eq)]
 pub enum Finding {
-    /// The header block of the area can't be read.
+    /// The header block of the area couldn't be read.
     HeaderUnread(u32),
-    /// `orig_sig` is no signature of a swap area.
+    /// `orig_sig` isn't the signature of a swap area.
     OriginalSignature,
-    /// Taken back, the header would be that of an area at fault.
+    /// With its mark taken back, the header would be that of an area with a fault.
     Area(AreaFault),
-    /// The area ends after the file.
+    /// The area ends past the end of the file.
     LastPage {
         last: u32,
         blocks: u32,
@@ -63,15 +63,14 @@ pub enum Finding {
     },
     /// A name of 65 bytes without a zero byte, from 0 to 5 in the order of `struct new_utsname`.
     NoEnd(u32),
-    /// No version code and no version text, but not the magic number of an x86-64 header (`restore_data_record`)
-    /// either.
+    /// Neither a version code, nor a version text, nor the magic number of an x86-64 header (`restore_data_record`).
     Magic(u64),
     /// No page frame was saved, or `pages` doesn't follow from `image_pages`.
     Counts {
         image_pages: u64,
         pages: u64,
     },
-    /// `size` isn't that of the pages.
+    /// `size` isn't the number of bytes of the pages.
     Size {
         size: u64,
         pages: u64,
@@ -82,25 +81,26 @@ pub enum Finding {
         word: u32,
         number: u64,
     },
-    /// A number that isn't above the one before.
+    /// A number that isn't above the one before it.
     Order {
         page: u64,
         word: u32,
         number: u64,
         before: u64,
     },
-    /// Another word than 2^64-1 after the last number.
+    /// The word after the last number isn't 2^64-1.
     End {
         page: u64,
         word: u32,
         found: u64,
     },
-    /// Pages of zeros have no data page, and `pages` doesn't follow from the numbers that have one.
+    /// Pages of zeros have no data page, and `pages` doesn't follow from the count of numbers that have one.
     DataPages {
         counted: u64,
         pages: u64,
     },
-    /// The length that a unit of a compressed image begins with, in the page that this entry names. Units count from 1.
+    /// The length at the beginning of a unit of a compressed image, in the page that this entry names. Units count from
+    /// 1.
     UnitLength {
         unit: u32,
         place: Place,

@@ -1,4 +1,4 @@
-//! The header block of an area with the mark of an image.
+//! The header block of an area that is marked as an image.
 ghost use Rattle.std.specs.Prelude.{◌≡◌};
 ghost use Rattle.definitions.specs.SwapHeader.{taken_back};
 ghost use Rattle.sig_header.specs.AreaKind.{area_kind};
@@ -12,7 +12,7 @@ use image_walk::Limits;
 use page_core::Page;
 use sig_header::{Area, AreaFault, AreaKind, MOST_BADPAGES, SF_NOCOMPRESS_MODE, take_back};
 
-/// Tells what is wrong with a header block that has this mark's flags.
+/// Reports what is wrong with a header block whose mark has these flags.
 pub fn check_header<R: Report>(report: &mut R, blocks: u32, header: u32, flags: u32, page: &Page)
     ensures { Tells (header_findings blocks header flags page.now) (R.told report.old) (R.told report.new) }
 {
@@ -23,7 +23,7 @@ pub fn check_header<R: Report>(report: &mut R, blocks: u32, header: u32, flags: 
     tell_any(report, compressed_fault(flags));
 }
 
-/// What is wrong with the area that the header describes once it is taken back.
+/// Returns what is wrong with the area that the header describes once its mark is taken back.
 fn area_fault(blocks: u32, header: u32, kind: AreaKind) -> Option<Finding>
     ensures { result ≡ area_fault blocks header kind }
 {
@@ -45,7 +45,7 @@ fn area_fault(blocks: u32, header: u32, kind: AreaKind) -> Option<Finding>
     }
 }
 
-/// Which blocks the image of a header block may name.
+/// Returns the blocks that the image of a header block may name.
 pub fn limits_of(blocks: u32, header: u32, page: &Page) -> Limits
     ensures { result ≡ limits_of blocks header (area_kind (taken_back page.now)) }
 {
@@ -76,7 +76,7 @@ fn limits_by(blocks: u32, header: u32, kind: AreaKind) -> Limits
     }
 }
 
-/// Each block of the file.
+/// Returns the limits that allow each block of the file.
 pub fn any_block(blocks: u32, header: u32) -> Limits
     ensures { result ≡ any_block blocks header }
 {
@@ -88,7 +88,7 @@ pub fn any_block(blocks: u32, header: u32) -> Limits
     }
 }
 
-/// Whether an image with these flags is compressed.
+/// Returns whether an image with these flags is compressed.
 pub fn is_compressed(flags: u32) -> bool
     ensures { result ≡ is_compressed flags }
 {

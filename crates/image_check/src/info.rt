@@ -11,12 +11,12 @@ use crate::report::tell_any;
 use crate::{Counts, Finding, Report};
 use page_core::{Format, Page};
 
-/// How many bytes a name has, and how many names there are (`__NEW_UTS_LEN` + 1, `struct new_utsname`).
+/// The number of bytes of a name, and the number of names (`__NEW_UTS_LEN` + 1, `struct new_utsname`).
 const NAME_SIZE: usize = 65;
 
 const NAMES: u32 = 6;
 
-/// Where the fields after the names lie, in bytes (`struct swsusp_info`, kernel/power/power.h, 64-bit).
+/// The offsets in bytes of the fields after the names (`struct swsusp_info`, kernel/power/power.h, 64-bit).
 const VERSION_CODE: usize = 392;
 
 const IMAGE_PAGES: usize = 416;
@@ -25,12 +25,12 @@ const PAGES: usize = 424;
 
 const SIZE: usize = 432;
 
-/// RESTORE_MAGIC (arch/x86/power/hibernate.c), and its word.
+/// RESTORE_MAGIC (arch/x86/power/hibernate.c), and the index of its word.
 const MAGIC: u64 = 0x2345_6789_abcd_ef02;
 
 const MAGIC_WORD: usize = 3;
 
-/// What an info page says of the image's size.
+/// Returns what an info page says of the image's size.
 pub fn counts_in(page: &Page) -> Counts
     ensures { result ≡ counts_in page.now }
 {
@@ -40,7 +40,7 @@ pub fn counts_in(page: &Page) -> Counts
     }
 }
 
-/// Tells what is wrong with an info page.
+/// Reports what is wrong with an info page.
 pub fn check_info<R: Report>(report: &mut R, format: Format, page: &Page)
     ensures { Tells (info_findings format page.now) (R.told report.old) (R.told report.new) }
 {
@@ -97,7 +97,7 @@ fn magic_fault(page: &Page) -> Option<Finding>
     }
 }
 
-/// Whether a name is a text with an end.
+/// Returns whether a name is a version text that has an end.
 fn is_version_text(name: &[u8]) -> bool
     ensures { result ≡ is_version_text (text_of_name name.now) }
 {
@@ -105,7 +105,7 @@ fn is_version_text(name: &[u8]) -> bool
     0 < len && len < NAME_SIZE && is_printable(&name[..len])
 }
 
-/// How many bytes a name has before its first zero byte.
+/// Returns how many bytes a name has before its first zero byte.
 fn text_len(name: &[u8]) -> usize
     ensures { result ≡ length (text_of_name name.now) }
 {
@@ -131,7 +131,7 @@ fn counts_fault(format: Format, counts: &Counts) -> Option<Finding>
     }
 }
 
-/// Whether the number of pages follows from that of page frames.
+/// Returns whether the number of pages follows from the number of page frames.
 fn follows(format: Format, counts: &Counts) -> bool
     ensures { result ≡ follows format counts.now }
 {

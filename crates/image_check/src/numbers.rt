@@ -9,16 +9,16 @@ use crate::report::tell_any;
 use crate::{Finding, Report};
 use page_core::{Format, Page};
 
-/// How many words a page has.
+/// The number of words of a page.
 const WORDS: u32 = 512;
 
 /// What follows the last number (BM_END_OF_MAP).
 const END: u64 = u64::MAX;
 
-/// The bit of a page of zeros that has no data page (own).
+/// The bit that marks a page of zeros without a data page (this project's own).
 const ZERO_BIT: u64 = 1 << 63;
 
-/// The first number that is no page frame's: its address would have more than 64 bits.
+/// The first number that isn't a page frame's: its address would have more than 64 bits.
 const NO_FRAME: u64 = 1 << 52;
 
 /// A number page of an image.
@@ -27,11 +27,11 @@ pub(crate) struct NumberPage {
     pub format: Format,
     /// How many numbers the image has.
     pub numbers: u64,
-    /// The number of the page. Number pages count from 1.
+    /// The index of the page. Number pages count from 1.
     pub page: u64,
 }
 
-/// Tells what is wrong with the words of a number page, where `previous` is the last word of the one before.
+/// Reports what is wrong with the words of a number page; `previous` is the last word of the page before it.
 pub(crate) fn check_numbers<R: Report>(
     report: &mut R,
     of: NumberPage,
@@ -55,7 +55,7 @@ pub(crate) fn check_numbers<R: Report>(
     }
 }
 
-/// The word before word i of a page.
+/// Returns the word before word `i` of a page.
 fn word_before(previous: Option<u64>, bytes: &Page, i: u32) -> Option<u64>
     requires { i < 512 }
     ensures { result ≡ word_before previous bytes.now i }
@@ -110,8 +110,8 @@ fn number_fault(of: NumberPage, i: u32, word: u64, before: Option<u64>) -> Optio
     }
 }
 
-/// How many words of a number page are numbers, of so many in the image, that have a data page. Number pages count
-/// from 1.
+/// Returns how many words of a number page are numbers that have a data page, in an image of `numbers` numbers. Number
+/// pages count from 1.
 pub(crate) fn data_words(numbers: u64, page: u64, bytes: &Page) -> u64
     requires { page < 2 ^ 42 }
     ensures { result ≡ data_words numbers page bytes.now }
@@ -123,7 +123,7 @@ pub(crate) fn data_words(numbers: u64, page: u64, bytes: &Page) -> u64
         .count() as u64
 }
 
-/// The page frame number of a word.
+/// Returns the page frame number of a word.
 fn frame_of(format: Format, word: u64) -> u64
     ensures { result ≡ frame_of format word }
 {

@@ -5,32 +5,32 @@ use crate::Finding;
 use crate::text::line_of;
 use byte_streams::{Sink, put_all};
 
-/// Who is told of findings.
+/// A receiver of findings.
 pub trait Report {
-    /// What was told so far.
+    /// What was reported so far.
     ghost told: { Self → Told };
 
-    /// Takes a finding.
+    /// Reports a finding.
     fn tell(&mut self, finding: Finding)
         ensures { Tells (finding ∷ []) (told self.old) (told self.new) };
 
-    /// How many findings were told. It stays at 2^64-1.
+    /// Returns how many findings were reported; the count saturates at 2^64-1.
     fn count(&self) -> u64
         ensures { result ≡ (told self.now).count };
 }
 
-/// Prints findings, a line each. Once a line couldn't be printed no more are.
+/// Prints findings, one line each. Once a line couldn't be printed, no more are.
 #[derive(Drop)]
 pub struct Printer<S: Sink> {
     /// Where the lines go.
     pub sink: S,
     pub count: u64,
-    /// A line couldn't be printed.
+    /// Whether a line couldn't be printed.
     pub failed: bool,
 }
 
 impl<S: Sink> Printer<S> {
-    /// A printer that was told of nothing.
+    /// Returns a printer that has received no finding.
     pub fn new(sink: S) -> Printer<S>
         ensures sink { result.sink ≡ sink }
         ensures count { result.count ≡ 0 }
@@ -45,7 +45,8 @@ impl<S: Sink> Printer<S> {
 }
 
 impl<S: Sink> Report for Printer<S> {
-    ghost told = { λ p. record { text = S.taken p.sink; count = p.count; failed = p.failed; faults = S.faults p.sink } };
+    ghost told = { λ p.
+        record { text = S.taken p.sink; count = p.count; failed = p.failed; faults = S.faults p.sink } };
 
     fn tell(&mut self, finding: Finding) {
         self.count = self.count.saturating_add(1);
@@ -59,7 +60,7 @@ impl<S: Sink> Report for Printer<S> {
     }
 }
 
-/// Tells a finding, if there is one.
+/// Reports a finding, if there is one.
 pub(crate) fn tell_any<R: Report>(report: &mut R, finding: Option<Finding>)
     ensures { Tells (list_of finding) (R.told report.old) (R.told report.new) }
 {

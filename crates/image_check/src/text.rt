@@ -1,4 +1,4 @@
-//! The lines that are printed of findings.
+//! The lines that are printed for findings.
 ghost use Rattle.std.specs.Prelude.{◌≡◌, ◌+◌, ◌≤◌, ◌++◌, codes, decimal, length};
 ghost use Rattle.byteorder.specs.Endian.{big_bytes};
 ghost use Rattle.plain_machine.specs.Replies.{hex_text};
@@ -12,7 +12,7 @@ use image_walk::BlockFault;
 use lzo::{Kind, LzoFault};
 use sig_header::AreaFault;
 
-/// The line of a finding.
+/// Returns the line of a finding.
 pub(crate) fn line_of(finding: &Finding) -> Line
     ensures { result ≡ line_of finding.now }
 {
@@ -200,7 +200,7 @@ fn put_word(line: &mut Line, page: u64, word: u32)
     put_named(line, b"", u64::from(word), b": ");
 }
 
-/// Writes a magic number into an empty buffer, by 16 hexadecimal digits.
+/// Writes a magic number as 16 hexadecimal digits into an empty buffer.
 fn put_magic(line: &mut Line, magic: u64)
     requires { length line.old ≡ 0 }
     ensures text { line.new ≡ codes "info page: the header of an architecture, but with magic 0x"
@@ -251,7 +251,7 @@ fn put_kind(line: &mut Line, kind: Kind)
     }
 }
 
-/// Writes how many bytes a unit has, and how many are wanted, into an empty buffer.
+/// Writes how many bytes a unit has and how many it should have into an empty buffer.
 fn put_size(line: &mut Line, unit: u32, bytes: u64, wanted: u64)
     requires { length line.old ≡ 0 }
     ensures text { line.new ≡ size_text unit bytes wanted }
@@ -262,7 +262,7 @@ fn put_size(line: &mut Line, unit: u32, bytes: u64, wanted: u64)
     put_named(line, b"", wanted, b" are wanted");
 }
 
-/// Writes two checksums into an empty buffer, each by eight hexadecimal digits.
+/// Writes two checksums as eight hexadecimal digits each into an empty buffer.
 fn put_checksum(line: &mut Line, header: u32, units: u32)
     requires { length line.old ≡ 0 }
     ensures text { line.new ≡ checksum_text header units }

@@ -10,7 +10,7 @@ use Rattle.image_check.specs.Checked.{Finds}
 use Rattle.image_check.specs.Lines.{lines_of}
 use Rattle.image_check.specs.declared.finding.Finding.{Finding}
 
--- the last line: the image is whole just where nothing was found
+-- the last line: the image is whole if and only if nothing was found
 abbrev pub last_line : List Finding → List ℕ
 last_line [] = line (codes "whole")
 last_line (f ∷ fs) = line (decimal (min (length (f ∷ fs)) last_count) ++ codes " findings")
@@ -19,7 +19,7 @@ abbrev pub status_of : List Finding → Status
 status_of [] = Done
 status_of (f ∷ fs) = Refused
 
--- a line for each finding, and the last one
+-- a line for each finding, and the last line
 abbrev pub findings_told : List Finding → RunResult
 findings_told found = record { status = status_of found; out = lines_of found ++ last_line found; note = [] }
 
@@ -30,7 +30,7 @@ abbrev pub found_told : Option (List Finding) → RunResult
 found_told None = no_image_told
 found_told (Some found) = findings_told found
 
--- just what is wrong with the image of the area is told, or that memory was refused
+-- either exactly what is wrong with the image of the area is printed, or that memory was refused
 abbrev pub Checks : Option Content → (blocks header before now : ℕ) → Status → (out out' note note' : SinkView) → Type 0
 Checks content blocks header before now status out out' note note' =
     IsTold memory_told status out out' note note'

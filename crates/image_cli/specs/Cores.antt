@@ -14,17 +14,17 @@ use Rattle.image_core.specs.declared.stop.Stop.TheVariants.{Memory}
 use Rattle.image_cli.specs.Notes.{IsNoted}
 use Rattle.image_cli.specs.Streams.{refused_told}
 
--- a core file that is whole needs no word more
+-- nothing is printed for a core file that is whole
 abbrev pub whole_told : RunResult
 whole_told = record { status = Done; out = []; note = [] }
 
--- the output failed: that is noted, and it takes nothing more
+-- the output failed: that is noted, and nothing more is written to it
 pub record NotesFailure (status : Status) (out out' note note' : SinkView) : Type 0 where
   pub status_is : status ≡ Stream
   pub out_is : out' ≡ out
   pub noted : IsTried sink_note note note'
 
--- how it is told that the core file isn't written, or not whole, and why; findings were told before
+-- what is printed if the core file isn't written, or isn't whole, and why; findings were noted before
 abbrev pub TellsStop : Stop → Status → (out out' note note' : SinkView) → Type 0
 TellsStop NoImage = IsTold (refused_told (line (codes "no image")))
 TellsStop Refused = IsTold (refused_told [])
@@ -33,8 +33,8 @@ TellsStop Changed = IsTold (refused_told (line (codes "the image changed")))
 TellsStop Sink = NotesFailure
 TellsStop Memory = IsTold memory_told
 
--- The core file of the image was written whole, and nothing is noted; or nothing or a front of it was, and that is told
--- with its cause.
+-- Either the core file of the image was written whole, and nothing is noted; or nothing or a prefix of it was written,
+-- and that is noted with its cause.
 pub data WritesCore (content : Option Content) (blocks header before now : ℕ) (told : Told) (status : Status)
     (out out' note' : SinkView) : Type 0 where
   whole : (written noted : SinkView) →

@@ -36,14 +36,14 @@ note_of (opened.Open c) = []
 abbrev pub unopened_told : Opened → RunResult
 unopened_told o = record { status = Refused; out = []; note = note_of o }
 
--- a line for each difference, and what ends them
+-- a line for each difference, and what follows them
 abbrev pub ended_told : List Difference → Ended → RunResult
 ended_told ds ended.Same = record { status = Done; out = lines_of ds ++ line (codes "same"); note = [] }
 ended_told ds ended.Different = record { status = Refused; out = lines_of ds; note = [] }
 ended_told ds (ended.Refused which) =
     record { status = Refused; out = lines_of ds; note = refused_note which has_findings }
 
--- a whole comparison, by how many differences there are
+-- the end of a whole comparison, by the number of differences
 abbrev pub end_of : ℕ → Ended
 end_of count = if count == 0 then ended.Same else ended.Different
 
@@ -51,7 +51,7 @@ end_of count = if count == 0 then ended.Same else ended.Different
 abbrev pub AreFirst : (a b : SideView) → List Difference → Type 0
 AreFirst a b ds = (c : Comparison) × HasCompared a b c ds
 
--- all are told, or, where that is asked for, the first alone
+-- all differences are printed, or only the first if that is asked for
 abbrev pub AreDifferent : Bool → (a a' b b' : SideView) → List Difference → Type 0
 AreDifferent first_only a a' b b' ds =
     ((first_only ≡ false) × (ds ≢ []) × AreCompared a a' b b' ds)
@@ -74,7 +74,7 @@ pub record IsCutShort (ds : List Difference) (status : Status) (out out' note no
   pub front : FailsToPrint (lines_of ds) out out'
   pub noted : IsTried sink_note note note'
 
--- just the differences of two images that are open are told, or the output failed on the way
+-- either exactly the differences of two open images are printed, or the output failed on the way
 abbrev pub Compares : Bool → (a a' b b' : SideView) → Status → (out out' note note' : SinkView) → Type 0
 Compares first_only a a' b b' status out out' note note' =
     ((ds : List Difference) × ((end : Ended) × (EndsAfter first_only a a' b b' ds end
@@ -85,7 +85,7 @@ Compares first_only a a' b b' status out out' note note' =
 abbrev pub IsUnopened : (a a' b b' : SideView) → Opened → Type 0
 IsUnopened a a' b b' o = Opens a a' b b' o × ((c : Comparison) → o ≡ opened.Open c → ⊥)
 
--- so, or why the images aren't compared is told, or that memory was refused
+-- the same, or the reason why the images aren't compared is printed, or that memory was refused
 abbrev pub Differs : Bool → (a a' b b' : SideView) → Status → (out out' note note' : SinkView) → Type 0
 Differs first_only a a' b b' status out out' note note' =
     (AreUntold a a' b b' × IsTold memory_told status out out' note note')

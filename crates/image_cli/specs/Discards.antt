@@ -22,7 +22,7 @@ discard_told (Err fault.Read) = record { status = Device; out = []; note = line 
 discard_told (Err fault.Write) = record { status = Device; out = []; note = line (codes "write fault unsure") }
 discard_told (Err fault.Sync) = record { status = Device; out = []; note = line (codes "sync fault unsure") }
 
--- what it makes of the disk
+-- what `discard` makes of the disk
 abbrev pub Leaves : (header blocks : ℕ) → (old new : Option Content) → Result Discarded Fault → Type 0
 Leaves header blocks old new (Ok end) = Ends header blocks old new end
 Leaves header blocks old new (Err fault) = Fails header old new fault

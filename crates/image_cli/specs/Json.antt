@@ -17,11 +17,11 @@ use Rattle.image_json.specs.declared.checking.Checked.{Checked}
 use Rattle.image_show.specs.declared.shown.Shown.{Shown}
 use Rattle.image_cli.specs.Shows.{status_shown}
 
--- the object of these facts, in a line
+-- the object of these facts, on one line
 abbrev pub object_told : List Fact → Shown → RunResult
 object_told facts shown = record { status = status_shown shown; out = object_line facts; note = [] }
 
--- just what is written in the area is told, or that memory was refused
+-- either exactly what is written in the area is printed, or that memory was refused
 abbrev pub PrintsObject : Option Content → (blocks header before now : ℕ) → Status
     → (out out' note note' : SinkView) → Type 0
 PrintsObject content blocks header before now status out out' note note' =
@@ -33,22 +33,22 @@ abbrev pub status_whole : Bool → Status
 status_whole true = Done
 status_whole false = Refused
 
--- the object of these findings, in a line
+-- the object of these findings, on one line
 abbrev pub check_told : Option (List Finding) → RunResult
 check_told found = record { status = status_whole (found_whole found); out = found_line found; note = [] }
 
--- the same of what a check gives, or that memory was refused
+-- the same for the result of a check, or that memory was refused
 abbrev pub told_of_checked : Result Checked NoMemory → RunResult
 told_of_checked (Ok checked) =
     record { status = status_whole checked.whole; out = string_bytes checked.line; note = [] }
 told_of_checked (Err why) = memory_told
 
--- just the object of these findings is told, or that memory was refused
+-- either exactly the object of these findings is printed, or that memory was refused
 abbrev pub TellsCheck : Option (List Finding) → Status → (out out' note note' : SinkView) → Type 0
 TellsCheck found status out out' note note' =
     IsTold memory_told status out out' note note' ⊎ IsTold (check_told found) status out out' note note'
 
--- just what is wrong with the image of the area is told, or that memory was refused
+-- either exactly what is wrong with the image of the area is printed, or that memory was refused
 abbrev pub PrintsCheck : Option Content → (blocks header before now : ℕ) → Status
     → (out out' note note' : SinkView) → Type 0
 PrintsCheck content blocks header before now status out out' note note' =

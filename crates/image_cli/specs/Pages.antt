@@ -13,14 +13,14 @@ use Rattle.image_saved.specs.declared.finding.Found.TheVariants as found
 use Rattle.image_cli.specs.Notes.{IsNoted}
 use Rattle.image_cli.specs.Streams.{refused_told}
 
--- the page, or why there is none, after the findings that were noted
+-- the page, or the reason why there is none, after the findings that were noted
 abbrev pub found_told : ℕ → List ℕ → Found → RunResult
 found_told frame page found.NoImage = refused_told (line (codes "no image"))
 found_told frame page found.Refused = refused_told []
 found_told frame page found.NoPage = refused_told (line (codes "no page " ++ decimal frame))
 found_told frame page found.Page = record { status = Done; out = page; note = [] }
 
--- what was found of the page frame is told, or that memory was refused
+-- either what was found of the page frame is printed, or that memory was refused
 pub data WritesPage (content : Option Content) (blocks header before now : ℕ) (told : Told) (frame : ℕ)
     (status : Status)
     (out out' note' : SinkView) : Type 0 where

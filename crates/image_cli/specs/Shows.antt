@@ -26,7 +26,7 @@ pub record IsCutShort (facts : List Fact) (status : Status) (out out' note note'
   pub front : FailsToPrint (text_of facts) out out'
   pub noted : IsTried sink_note note note'
 
--- Just what is written in the area is told, or that memory was refused; or the output failed on the way.
+-- Either exactly what is written in the area is printed, or that memory was refused; or the output failed on the way.
 abbrev pub PrintsFacts : Option Content → (blocks header before now : ℕ) → Status
     → (out out' note note' : SinkView) → Type 0
 PrintsFacts content blocks header before now status out out' note note' =

@@ -12,18 +12,18 @@ use Rattle.image_stream.specs.declared.streaming.Streamed.{Streamed}
 use Rattle.image_stream.specs.declared.streaming.Streamed.TheVariants as streamed
 use Rattle.image_cli.specs.Notes.{IsNoted}
 
--- nothing more on out, and this as the note
+-- nothing more is printed, and this is noted
 abbrev pub refused_told : List ℕ → RunResult
 refused_told note = record { status = Refused; out = []; note = note }
 
--- what is told after the pages that were written and the findings that were noted
+-- what is printed after the pages that were written and the findings that were noted
 abbrev pub streamed_told : Streamed → RunResult
 streamed_told streamed.NoImage = refused_told (line (codes "no image"))
 streamed_told streamed.Refused = refused_told []
 streamed_told streamed.Whole = record { status = Done; out = []; note = [] }
 
--- The image was written, or so much of it, and that is told; or the output failed within its stream; or memory was
--- refused before.
+-- Either the image was written, or a part of it, and that is reported; or the output failed within its stream; or
+-- memory was refused before.
 pub data Streams (content : Option Content) (blocks header before now : ℕ) (told : Told) (status : Status)
     (out out' note note' : SinkView) : Type 0 where
   ended : (what : Streamed) (then : Told) (written noted : SinkView) →

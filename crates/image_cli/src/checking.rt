@@ -19,9 +19,9 @@ use page_core::NoMemory;
 use sector_disk::Disk;
 use std::alloc::Global;
 
-/// Prints what is wrong with the image of the area whose header lies in a block: a line for each finding, with its
-/// place, in the order in which the image is read, and then `whole`, or how many findings there are; `no image` where
-/// the header block, if the disk has it, carries no mark. The status is `Done` just where the image is whole. The
+/// Prints what is wrong with the image of the area whose header lies in block `header`: a line for each finding, with
+/// its place, in the order in which the image is read, and then `whole`, or how many findings there are; `no image` if
+/// the header block, if the disk has it, carries no mark. The status is `Done` if and only if the image is whole. The
 /// disk is only read.
 pub fn check<D: Disk, O: Sink, N: Sink>(
     alloc: Global,
@@ -54,8 +54,8 @@ pub fn check<D: Disk, O: Sink, N: Sink>(
     }
 }
 
-/// Prints the same as one JSON object, in a line: the findings, whether there is an image, and whether it is whole. The
-/// status is as that of `check`. The disk is only read.
+/// Prints the same as one JSON object on a line: the findings, whether there is an image, and whether it is whole. The
+/// status is that of `check`. The disk is only read.
 pub fn check_json<D: Disk, O: Sink, N: Sink>(
     alloc: Global,
     disk: &mut D,
@@ -81,7 +81,7 @@ pub fn check_json<D: Disk, O: Sink, N: Sink>(
     tell_checked(&image_json::check(alloc, disk, header), out, note)
 }
 
-/// Ends such a check whose findings were kept.
+/// Ends a JSON check whose findings were kept.
 pub fn sum_up_json<O: Sink, N: Sink>(
     alloc: Global,
     findings: &Findings,
@@ -102,7 +102,7 @@ pub fn sum_up_json<O: Sink, N: Sink>(
     tell_checked(&image_json::sum_up(alloc, findings), out, note)
 }
 
-/// Prints the object of what a check has found, or that memory was refused.
+/// Prints the object of the findings of a check, or that memory was refused.
 fn tell_checked<O: Sink, N: Sink>(
     checked: &Result<Checked, NoMemory>,
     out: &mut O,
@@ -155,7 +155,7 @@ pub fn sum_up<O: Sink, N: Sink>(out: &mut Printer<O>, note: &mut N) -> Status
     summary(out.count).tell(&mut out.sink, note)
 }
 
-/// The last line of a check, by how many findings there were.
+/// Returns the last line of a check, by how many findings there were.
 fn summary(count: u64) -> Answer
     ensures told { (found : List Finding) → count ≡ min (length found) last_count →
         told_by result ≡ record { status = status_of found; out = last_line found; note = [] } }

@@ -13,8 +13,8 @@ use image_core::{Stop, write_core};
 use sector_disk::Disk;
 use std::alloc::Global;
 
-/// Writes the saved page frames of the image of the area whose header lies in a block as a core file. What is wrong
-/// with the image is noted, and ends the file. The disk is only read.
+/// Writes the saved page frames of the image of the area whose header lies in block `header` as a core file. What is
+/// wrong with the image is noted, and ends the file. The disk is only read.
 pub fn core<D: Disk, O: Sink, N: Sink>(
     alloc: Global,
     disk: &mut D,
@@ -42,7 +42,7 @@ pub fn core<D: Disk, O: Sink, N: Sink>(
     }
 }
 
-/// Tells why the core file isn't whole.
+/// Prints why the core file isn't whole.
 fn tell_stop<O: Sink, N: Sink>(why: Stop, out: &mut O, note: &mut N) -> Status
     ensures told { TellsStop why result
         (sink_view O.Sink out.old)

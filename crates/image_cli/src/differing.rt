@@ -22,13 +22,13 @@ use std::alloc::Global;
 enum Ended {
     Same,
     Different,
-    /// What is wrong with one of the images was told.
+    /// What is wrong with one of the images was reported.
     Refused(Which),
 }
 
 /// Prints where the images of two areas differ, a line for each difference: in their marks, in what their info pages
-/// say, and in their saved page frames, in ascending order; or `same`; or the first difference alone, where that is
-/// wanted. The status is `Done` just where they are the same. What is wrong with an image ends the comparison, and is
+/// say, and in their saved page frames, in ascending order; or `same`; or only the first difference, if that is asked
+/// for. The status is `Done` if and only if they are the same. What is wrong with an image ends the comparison, and is
 /// noted. Both disks are only read.
 pub fn differ<D: Disk, E: Disk, R: Report, Q: Report, O: Sink, N: Sink>(
     alloc: Global,
@@ -66,7 +66,7 @@ pub fn differ<D: Disk, E: Disk, R: Report, Q: Report, O: Sink, N: Sink>(
     }
 }
 
-/// Prints the differences of two images that are open, and what ends them.
+/// Prints the differences of two open images, and what follows them.
 fn compare<D: Disk, E: Disk, R: Report, Q: Report, O: Sink, N: Sink>(
     comparison: &mut Comparison,
     first: &mut Side<D, R>,
@@ -138,7 +138,7 @@ fn tell_differences<D: Disk, E: Disk, R: Report, Q: Report, O: Sink>(
     }
 }
 
-/// How a whole comparison ended, by how many differences there are.
+/// Returns how a whole comparison ended, by how many differences there are.
 fn end_of(count: u64) -> Ended
     ensures { result ≡ end_of count }
 {
@@ -149,7 +149,7 @@ fn end_of(count: u64) -> Ended
     }
 }
 
-/// Nothing more is printed of two images, since one of them has findings.
+/// Returns the answer for two images of which one has findings: nothing more is printed.
 pub fn has_findings(which: Which) -> Answer
     ensures told { told_by result ≡ unopened_told (opened.Refused which) }
     ensures status { result.status ≡ Status.Refused }
@@ -161,7 +161,7 @@ pub fn has_findings(which: Which) -> Answer
     }
 }
 
-/// Why two images aren't compared. Nothing is noted of images that are.
+/// Returns why two images aren't compared. The note is empty if they are.
 fn note_of(opened: &Opened) -> Line
     ensures { result ≡ note_of opened.now }
 {
@@ -172,7 +172,7 @@ fn note_of(opened: &Opened) -> Line
     }
 }
 
-/// The line that says which image is refused, and why.
+/// Returns the line that says which image is refused, and why.
 fn refused_note(which: Which, why: &[u8]) -> Line
     requires { length why.now ≤ 40 }
     ensures { result ≡ refused_note which why.now }

@@ -11,7 +11,7 @@ use command_kit::{Answer, Status};
 use image_discard::{Discarded, Fault};
 use sector_disk::Disk;
 
-/// Takes back the mark of the area whose header lies in a block, and prints what became of the image.
+/// Takes back the mark of the area whose header lies in block `header`, and prints what became of the image.
 pub fn discard<D: Disk, O: Sink, N: Sink>(
     disk: &mut D,
     header: u32,
@@ -38,7 +38,7 @@ pub fn discard<D: Disk, O: Sink, N: Sink>(
     told_of(&outcome).tell(out, note)
 }
 
-/// What is told of an image that was given up, or not.
+/// Returns what is printed of an image that was or wasn't given up.
 fn told_of(outcome: &Result<Discarded, Fault>) -> Answer
     ensures told { told_by result ≡ discard_told outcome.now }
     ensures status { result.status ≡ (discard_told outcome.now).status }

@@ -12,8 +12,8 @@ use page_core::NoMemory;
 use sector_disk::Disk;
 use std::alloc::Global;
 
-/// Prints what is written in the area whose header lies in a block, a fact a line. The status is `Done` where there
-/// is such a block and it was read, whatever it says. A compressed image is read whole first. The disk is only read.
+/// Prints what is written in the area whose header lies in block `header`, one fact per line. The status is `Done` if
+/// that block exists and was read, whatever it says. A compressed image is read whole first. The disk is only read.
 pub fn show<D: Disk, O: Sink, N: Sink>(
     alloc: Global,
     disk: &mut D,
@@ -43,7 +43,7 @@ pub fn show<D: Disk, O: Sink, N: Sink>(
     }
 }
 
-/// Prints those facts as the members of one JSON object, in a line. The status is as that of `show`. The disk is only read.
+/// Prints those facts as the members of one JSON object on a line. The status is that of `show`. The disk is only read.
 pub fn show_json<D: Disk, O: Sink, N: Sink>(
     alloc: Global,
     disk: &mut D,

@@ -18,8 +18,8 @@ use page_core::{NoMemory, Page};
 use sector_disk::Disk;
 use std::alloc::Global;
 
-/// Writes the image of the area whose header lies in a block as a stream, as `swsusp export` does. What is wrong with
-/// it is noted, and ends the stream. The disk is only read.
+/// Writes the image of the area whose header lies in block `header` as a stream, as `swsusp export` does. What is wrong
+/// with the image is noted, and ends the stream. The disk is only read.
 pub fn stream<D: Disk, O: Sink, N: Sink>(
     alloc: Global,
     disk: &mut D,
@@ -49,8 +49,8 @@ pub fn stream<D: Disk, O: Sink, N: Sink>(
     }
 }
 
-/// Writes the saved page of a page frame in the image of the area whose header lies in a block. What is wrong with the
-/// image up to there is noted. The disk is only read.
+/// Writes the saved page of a page frame in the image of the area whose header lies in block `header`. What is wrong
+/// with the image up to there is noted. The disk is only read.
 pub fn page<D: Disk, O: Sink, N: Sink>(
     alloc: Global,
     disk: &mut D,
@@ -80,7 +80,7 @@ pub fn page<D: Disk, O: Sink, N: Sink>(
     }
 }
 
-/// What is told at the end of a stream.
+/// Returns what is printed at the end of a stream.
 fn streamed_told(streamed: Streamed) -> Answer
     ensures told { told_by result ≡ streamed_told streamed }
     ensures stream { result.status ≢ Status.Stream }
@@ -98,7 +98,7 @@ fn streamed_told(streamed: Streamed) -> Answer
     }
 }
 
-/// A refusal with this note.
+/// Returns a refusal with this note.
 fn refused(text: &[u8]) -> Answer
     requires { length text.now ≤ 40 }
     ensures told { told_by result ≡ refused_told text.now }
@@ -139,7 +139,7 @@ fn tell_found<O: Sink, N: Sink>(
     }
 }
 
-/// No page of this page frame was saved.
+/// Returns the answer that no page of this page frame was saved.
 fn refused_frame(frame: u64) -> Answer
     ensures told { told_by result ≡ refused_told (line (codes "no page " ++ decimal frame)) }
     ensures status { result.status ≡ Status.Refused }

@@ -25,17 +25,17 @@ numbers_in frames = map (λ (f : SavedFrame). f.number) frames
 abbrev pub pages_of : List SavedFrame → List (List ℕ)
 pages_of frames = map (λ (f : SavedFrame). f.page) frames
 
--- the core file of page frames, of the machine that an info page tells
+-- the core file of page frames, of the machine that an info page names
 abbrev pub core_of_frames : List ℕ → List SavedFrame → List ℕ
 core_of_frames info frames = core_bytes (machine_of info) (identity_of info) (numbers_in frames) (pages_of frames)
 
--- the core file of an image, by its format and the pages of its stream, of which the first is the info page
+-- the core file of an image, by its format and the pages of its stream, the first of which is the info page
 abbrev pub core_of : Format → (ℕ → List ℕ) → List ℕ
 core_of format at = core_of_frames (at 0) (saved_frames format at)
 
--- The core file was written of what was read: of the info page, of the numbers, and of the page frames that were read
--- at last, up to their end. Nothing is wrong with a whole reading of the image. Where the disk tells what it holds,
--- that is the core file of the image that the chain names.
+-- The core file was written from what was read: from the info page, the numbers, and the page frames that were read
+-- last, up to their end. Nothing is wrong with a whole reading of the image. If the disk tells what it holds, this is
+-- the core file of the image that the chain names.
 pub record IsWritten (content : Option Content) (blocks header before now : ℕ)
     (old new : Option (List ℕ)) : Type 0 where
   pub info : List ℕ
@@ -52,19 +52,19 @@ pub record IsWritten (content : Option Content) (blocks header before now : ℕ)
   pub core : IfSome content (λ held.
       TakesAll (core_of (chain_format (as_it_reads held) header) (chain_page (as_it_reads held) header)) old new)
 
--- a front of the core file is taken, where the disk tells what it holds
+-- a prefix of the core file was written, if the disk tells what it holds
 abbrev pub IsFront : Option Content → ℕ → (old new : Option (List ℕ)) → Type 0
 IsFront content header old new =
     IfSome content (λ held.
     TakesFront (core_of (chain_format (as_it_reads held) header) (chain_page (as_it_reads held) header)) old new)
 
--- the info page counts 2^32 - 1 page frames or more
+-- the info page counts at least 2^32 - 1 page frames
 abbrev pub HasTooMany : Option Content → ℕ → Type 0
 HasTooMany content header =
     (info : List ℕ) × IsChainPage content header 0 info × (4294967295 ≤ count_in (λ k. info))
 
--- Why it ended, where the sink had so many faults before and has so many now. An image is another one when it is read
--- again only on a disk that doesn't tell what it holds.
+-- Why writing stopped, if the sink had `first` faults before and has `last` faults now. Only on a disk that doesn't
+-- tell what it holds can the image be another one when it is read again.
 abbrev pub IsStopped : Option Content → (blocks header before now : ℕ) → (told then : Told) → (first last : ℕ) →
     Stop → Type 0
 IsStopped content blocks header before now told then first last NoImage = IsNoImage content blocks header told then
@@ -75,7 +75,7 @@ IsStopped content blocks header before now told then first last Changed = (conte
 IsStopped content blocks header before now told then first last Sink = HasRisen first last × (then ≡ told)
 IsStopped content blocks header before now told then first last Memory = then ≡ told
 
--- nothing is written where it ends before the image is open
+-- nothing was written if writing stopped before the image was open
 abbrev pub IsUnwritten : (old new : Option (List ℕ)) → Stop → Type 0
 IsUnwritten old new NoImage = new ≡ old
 IsUnwritten old new TooMany = new ≡ old

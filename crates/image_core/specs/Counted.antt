@@ -7,11 +7,11 @@ use Rattle.image_frames.specs.SavedNumbers.{AreAllNumbers}
 use Rattle.image_frames.specs.declared.numbers.Numbers.{Numbers}
 use Rattle.image_core.specs.declared.counting.Tally.{Tally}
 
--- so many numbers are given, by the info page
+-- the given number of numbers will be given, by the info page
 abbrev pub WillGive : Numbers → ℕ → Type 0
 WillGive numbers frames = (counts_in numbers.info).image_pages ≡ frames
 
--- these many page frames, all of the image, have these many runs
+-- the image has `frames` page frames in all, in `runs` runs
 pub record HasCounted (content : Option Content) (header frames runs : ℕ) : Type 0 where
   pub numbers : List ℕ
   pub all : AreAllNumbers content header numbers

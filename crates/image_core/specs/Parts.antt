@@ -17,11 +17,11 @@ use Rattle.image_core.specs.declared.counting.Tally.{Tally}
 abbrev pub loads_over : List ℕ → List ℕ
 loads_over numbers = loads_bytes (page_offset (length (runs_of numbers))) (runs_of numbers)
 
--- of those that an image saves, by the pages of its stream
+-- the program headers of the page frames that an image saves, by the pages of its stream
 abbrev pub loads_of : Format → (ℕ → List ℕ) → List ℕ
 loads_of format at = loads_over (saved_numbers format at)
 
--- the program headers of all page frames are taken, as many as were counted
+-- the program headers of all page frames were written, as many as were counted
 pub record HasLoads (content : Option Content) (header : ℕ) (tally : Tally) (old new : Option (List ℕ)) : Type 0 where
   pub numbers : List ℕ
   pub taken : TakesAll (loads_over numbers) old new
@@ -29,7 +29,7 @@ pub record HasLoads (content : Option Content) (header : ℕ) (tally : Tally) (o
   pub size : length numbers ≡ tally.frames
   pub all : AreAllNumbers content header numbers
 
--- the pages of all page frames are taken, as many as were counted, and nothing is wrong with a whole reading of the
+-- the pages of all page frames were written, as many as were counted, and nothing is wrong with a whole reading of the
 -- image
 pub record HasPages (content : Option Content) (blocks header before now : ℕ) (tally : Tally)
     (old new : Option (List ℕ)) : Type 0 where

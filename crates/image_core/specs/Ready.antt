@@ -7,7 +7,7 @@ use Rattle.image_frames.specs.Numbered.{HasNumbered}
 use Rattle.image_core.specs.Counted.{HasTallied}
 use Rattle.image_core.specs.declared.coring.Ready.{Ready}
 
--- its page frames are counted, its info page was read, and none of the others is given yet
+-- its page frames were counted, its info page was read, and nothing else was given yet
 pub record IsReady (content : Option Content) (blocks header : ℕ) (ready : Ready) : Type 0 where
   pub tallied : HasTallied content header ready.tally
   pub info : IsChainPage content header 0 ready.info

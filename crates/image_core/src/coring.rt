@@ -14,7 +14,7 @@ use page_core::Page;
 use sector_disk::Disk;
 use std::alloc::Global;
 
-/// An image whose page frames are counted, and which is open to be read again.
+/// An image whose page frames were counted, and which is open to be read again.
 #[derive(Drop)]
 struct Ready {
     tally: Tally,
@@ -23,9 +23,9 @@ struct Ready {
     frames: Frames,
 }
 
-/// Writes the core file of the image of the area whose header lies in a block, up to the first block that is named
-/// and has findings. The image is read four times: its info page, its numbers for how many runs they have and for the
-/// program headers, and then all of it for the pages. Nothing is flushed.
+/// Writes the core file of the image of the area whose header lies in block `header`, up to the first named block that
+/// has findings. The image is read four times: for its info page, for its numbers to count their runs, for its numbers
+/// to write the program headers, and then whole for the pages. Nothing is flushed.
 pub fn write_core<D: Disk, S: Sink, R: Report>(
     alloc: Global,
     disk: &mut D,

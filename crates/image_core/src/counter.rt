@@ -5,7 +5,7 @@ ghost use Rattle.image_core.specs.Runs.{HasEnded};
 
 use image_facts::Runs;
 
-/// Puts numbers that come one after another into runs, and counts them.
+/// Collects numbers that come one after another into runs, and counts the runs.
 #[derive(Clone, Copy)]
 pub(crate) struct RunCounter {
     runs: Runs,
@@ -37,7 +37,7 @@ impl RunCounter {
         run
     }
 
-    /// The last run, which may go on.
+    /// Returns the last run, which may go on.
     pub fn last(&self) -> Option<(u64, u64)>
         ensures { (numbers : List ℕ) (ended : List (ℕ × ℕ)) → HasEnded numbers self.now ended →
             runs_of numbers ≡ ended ++ list_of result }
@@ -45,7 +45,7 @@ impl RunCounter {
         self.runs.last()
     }
 
-    /// How many runs there are.
+    /// Returns how many runs there are.
     pub fn count(&self) -> u32
         requires { (numbers : List ℕ) × ((ended : List (ℕ × ℕ)) × (HasEnded numbers self.now ended
             × (length numbers < 4294967295))) }

@@ -11,7 +11,7 @@ use image_frames::{NextNumber, Numbers};
 use sector_disk::Disk;
 use std::alloc::Global;
 
-/// How many page frames an image has, and how many runs of them.
+/// The number of page frames of an image, and the number of their runs.
 #[derive(Clone, Copy)]
 pub(crate) struct Tally {
     pub frames: u32,
@@ -44,7 +44,7 @@ pub(crate) fn count_image<D: Disk, R: Report>(
     Ok(Tally { frames, runs })
 }
 
-/// Counts the runs of so many page frames, which are all.
+/// Counts the runs of all page frames, `frames` in number.
 fn count_runs<D: Disk, R: Report>(
     numbers: &mut Numbers,
     frames: u32,

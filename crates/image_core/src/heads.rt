@@ -21,10 +21,10 @@ use image_frames::{NextNumber, Numbers};
 use page_core::{Failed, Page};
 use sector_disk::Disk;
 
-/// How many bytes of an info page tell whose image it is.
+/// The number of bytes of an info page that say whose image it is.
 const IDENTITY: usize = 396;
 
-/// Writes what lies before the program headers of the runs.
+/// Writes what precedes the program headers of the runs.
 pub(crate) fn put_front<S: Sink>(info: &Page, runs: u32, out: &mut S) -> Result<(), Failed>
     ensures whole { OnOk result
         (TakesAll (front_bytes (machine_of info.now) runs) (S.taken out.old) (S.taken out.new)) }
@@ -36,7 +36,7 @@ pub(crate) fn put_front<S: Sink>(info: &Page, runs: u32, out: &mut S) -> Result<
     put_all(out, note_header(runs).as_bytes())
 }
 
-/// Writes what lies between the program headers and the pages.
+/// Writes what comes between the program headers and the pages.
 pub(crate) fn put_back<S: Sink>(info: &Page, runs: u32, out: &mut S) -> Result<(), Failed>
     requires { runs + 1 < 2 ^ 32 }
     ensures whole { OnOk result

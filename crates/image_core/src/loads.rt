@@ -9,19 +9,19 @@ use crate::counter::RunCounter;
 use byte_streams::{Sink, put_all};
 use page_core::Failed;
 
-/// How many bytes a page has.
+/// The number of bytes of a page.
 const PAGE_SIZE: u64 = 4096;
 
 /// Writes the program headers of runs whose numbers come one after another.
 #[derive(Clone, Copy)]
 pub(crate) struct Loads {
     counter: RunCounter,
-    /// Where the pages of the next run lie in the file.
+    /// The place of the next run's pages in the file.
     offset: u64,
 }
 
 impl Loads {
-    /// None was written; the pages lie from a place on.
+    /// Returns a writer before the first program header; the pages lie from `offset` on.
     pub fn new(offset: u64) -> Loads
         ensures { (taken : Option (List ℕ)) → AreListed offset [] result taken taken }
     {
@@ -31,7 +31,7 @@ impl Loads {
         }
     }
 
-    /// Adds a number. Where a run ends before it, its program header is written.
+    /// Adds a number. If a run ends before it, the program header of that run is written.
     pub fn add<S: Sink>(&mut self, number: u64, out: &mut S) -> Result<(), Failed>
         requires { (start : ℕ) × ((numbers : List ℕ) × ((old : Option (List ℕ)) ×
             (AreListed start numbers self.old old (S.taken out.old) × CanList start (numbers ++ number ∷ [])))) }
@@ -70,7 +70,7 @@ impl Loads {
         }
     }
 
-    /// How many program headers there are.
+    /// Returns how many program headers there are.
     pub fn count(&self) -> u32
         requires { (start : ℕ) × ((numbers : List ℕ) × ((old : Option (List ℕ)) × ((new : Option (List ℕ)) ×
             (AreListed start numbers self.now old new × CanList start numbers)))) }
@@ -81,7 +81,8 @@ impl Loads {
     }
 }
 
-/// Writes the program header of a run, whose pages lie from a place on. Moves the place to the pages of the next run.
+/// Writes the program header of a run whose pages lie from `offset` on, and moves `offset` to the pages of the next
+/// run.
 fn put_load<S: Sink>(offset: &mut u64, run: (u64, u64), out: &mut S) -> Result<(), Failed>
     requires first { run.0 < 2 ^ 52 }
     requires count { run.1 < 2 ^ 52 }

@@ -7,14 +7,14 @@ use elf_core::machine_of_name;
 use fact_lines::is_printable;
 use page_core::Page;
 
-/// Where the version code and the name of the machine lie (`struct swsusp_info`, kernel/power/power.h).
+/// The offsets of the version code and of the machine's name (`struct swsusp_info`, kernel/power/power.h).
 const VERSION_CODE: usize = 392;
 
 const MACHINE: usize = 260;
 
 const NAME_SIZE: usize = 65;
 
-/// RESTORE_MAGIC (arch/x86/power/hibernate.c), and its word.
+/// RESTORE_MAGIC (arch/x86/power/hibernate.c), and the index of its word.
 const MAGIC: u64 = 0x2345_6789_abcd_ef02;
 
 const MAGIC_WORD: usize = 3;
@@ -26,7 +26,7 @@ const AARCH64: u16 = 183;
 
 const NONE: u16 = 0;
 
-/// The number of the machine that an info page is of: by the name of the machine, or by the header of its architecture.
+/// Returns the number of the machine of an info page, from the machine's name or from the header of its architecture.
 #[tactic(auto, unfolding(crate::specs::Identity::machine_of))]
 pub(crate) fn machine_of(info: &Page) -> u16
     ensures { result ≡ machine_of info.now }
@@ -51,7 +51,7 @@ fn arch_machine(info: &Page) -> u16
     }
 }
 
-/// Whether these are a text with an end.
+/// Returns whether these bytes are a version text that has an end.
 fn is_version_text(name: &[u8]) -> bool
     ensures { result ≡ is_version_text (text_of_name name.now) }
 {
@@ -59,7 +59,7 @@ fn is_version_text(name: &[u8]) -> bool
     0 < len && len < NAME_SIZE && is_printable(&name[..len])
 }
 
-/// How many bytes a name has before its first zero byte.
+/// Returns how many bytes a name has before its first zero byte.
 fn text_len(name: &[u8]) -> usize
     ensures { result ≡ length (text_of_name name.now) }
 {

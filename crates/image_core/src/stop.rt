@@ -1,17 +1,17 @@
 use page_core::{Failed, NoMemory};
 use thiserror::Error;
 
-/// Why the core of an image wasn't written, or not all of it.
+/// Why the core file of an image wasn't written, or not all of it.
 #[derive(Clone, Copy, Debug, PartialEq, Eq, Error)]
 pub enum Stop {
     /// The header block, if the disk has it, isn't marked.
     #[error("no image")]
     NoImage,
-    /// The findings of the header block, or of the first block that is named and has some, were told.
+    /// The header block, or the first named block that has findings, was refused; the findings were reported.
     #[error("findings")]
     Refused,
-    /// Pages of zeros have no data page.
-    /// The info page counts more page frames than a disk has blocks.
+    /// The info page counts more page frames than a disk has blocks, which is possible if pages of zeros have no data
+    /// page.
     #[error("too many page frames")]
     TooMany,
     /// The image wasn't the same when it was read again.

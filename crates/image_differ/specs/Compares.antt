@@ -1,4 +1,4 @@
--- What a comparison of two images has told, and what comes next.
+-- What a comparison of two images has reported, and what comes next.
 use Rattle.std.specs.Prelude.{◌≡◌, ℕ, ◌+◌, ◌<◌, ◌≤◌, List, [], ◌∷◌, ◌++◌, Option, Some, None}
 use Rattle.image_frames.specs.Opens.{IsBad}
 use Rattle.image_frames.specs.SavedFrames.{SavedFrame}
@@ -20,8 +20,8 @@ use Rattle.image_differ.specs.declared.comparison.Opened.TheVariants as opened
 use Rattle.image_differ.specs.declared.difference.Difference.{Difference}
 use Rattle.image_differ.specs.declared.side.Which.TheVariants.{First, Second}
 
--- These differences were told: those at the first parts of the headings, and then, once all parts are compared,
--- those at the page frames below a number. Of each image the page frames that were read are known.
+-- These differences were reported: those at the first parts of the headings, and then, once all parts were compared,
+-- those at the page frames below a number. The page frames that were read of each image are known.
 pub record HasCompared (a b : SideView) (c : Comparison) (told : List Difference) : Type 0 where
   pub first_heading : IsHeading a c.first.frames.numbers.info c.one
   pub second_heading : IsHeading b c.second.frames.numbers.info c.two
@@ -35,7 +35,7 @@ pub record HasCompared (a b : SideView) (c : Comparison) (told : List Difference
   pub order : c.parts < 10 → bound ≡ 0
   pub is : told ≡ heading_differences c.one c.two c.parts ++ frame_differences first_frames second_frames bound
 
--- Both images are whole, and just their differences were told.
+-- Both images are whole, and exactly their differences were reported.
 pub record AreCompared (a a' b b' : SideView) (told : List Difference) : Type 0 where
   pub first : Image
   pub second : Image
@@ -63,20 +63,20 @@ Says a a' b b' told q (next.Refused Second) = IsWrong b b' × (a'.told ≡ a.tol
 abbrev pub pairs_left : Comparison → ℕ
 pairs_left c = frames_left c.first + frames_left c.second
 
--- a step on the way gives nothing where the pages are the same
+-- a step on the way gives nothing if the pages are the same
 abbrev pub Steps : (a a' b b' : SideView) → List Difference → (p q : Comparison) → Option Next → Type 0
 Steps a a' b b' told p q None =
     AreUntold a a' b b' × HasCompared a b q told × (pairs_left q < pairs_left p)
 Steps a a' b b' told p q (Some n) = Says a a' b b' told q n
 
--- what there is of one image
+-- the results of opening one image
 abbrev pub Begins : (old new : SideView) → Begun → Type 0
 Begins old new begun.NoImage = IsNoImage old.content old.blocks old.header old.told new.told
 Begins old new begun.Refused = IsBad old.content old.blocks old.header old.faults new.faults old.told new.told
 Begins old new (begun.Open h r) =
     (new.told ≡ old.told) × IsHeading old r.frames.numbers.info h × IsReading old r [] 0
 
--- what there is to compare
+-- the results of opening both images
 abbrev pub Opens : (a a' b b' : SideView) → Opened → Type 0
 Opens a a' b b' (opened.NoImage First) =
     IsNoImage a.content a.blocks a.header a.told a'.told × (b'.told ≡ b.told)

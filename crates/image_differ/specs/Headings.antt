@@ -1,5 +1,5 @@
--- In what two images differ beside their page frames: in their marks and in what their info pages say. What belongs
--- to the area and not to the image isn't compared: the UUID, the label, the last page, the bad pages, and which blocks
+-- How two images differ apart from their page frames: in their marks and in what their info pages say. What belongs to
+-- the area and not to the image isn't compared: the UUID, the label, the last page, the bad pages, and the blocks that
 -- the image lies in.
 use Rattle.std.specs.Prelude.{ℕ, ◌-◌, ◌/◌, ◌%◌, ◌==◌, ◌&&◌, nat_eq, List, [], ◌∷◌, flat_map, slice_index_or}
 use Rattle.std.specs.Prelude.{if◌then◌else◌, Option, Some, None}
@@ -16,7 +16,7 @@ use Rattle.image_differ.specs.declared.heading.Heading.{Heading}
 abbrev pub flags_difference : Heading → Heading → Option Difference
 flags_difference a b = if a.flags == b.flags then None else Some (difference.Flags a.flags b.flags)
 
--- the flag SF_HW_SIG, which is 8, isn't set in either, or the signatures are the same
+-- no difference if neither sets the flag SF_HW_SIG, which is 8, or if the signatures are the same
 abbrev pub signature_difference : Heading → Heading → Option Difference
 signature_difference a b =
     if ((a.flags / 8) % 2 == 0) && ((b.flags / 8) % 2 == 0) then None
@@ -37,7 +37,7 @@ part_of_name j =
     else if j == 4 then part.Machine
     else part.Domainname
 
--- name j, with all of its 65 bytes
+-- name j, with all its 65 bytes
 abbrev pub name_difference : ℕ → Ident → Ident → Option Difference
 name_difference j a b =
     if pointwise nat_eq (slice_index_or a.names j []) (slice_index_or b.names j []) then None

@@ -1,4 +1,4 @@
--- The lines that are printed of differences.
+-- The lines that are printed for differences.
 use Rattle.std.specs.Prelude.{ℕ, List, [], ◌++◌, codes, decimal, flat_map}
 use Rattle.image_check.specs.Lines.{named}
 use Rattle.image_differ.specs.declared.difference.Difference.{Difference}
@@ -6,7 +6,7 @@ use Rattle.image_differ.specs.declared.difference.Difference.TheVariants as diff
 use Rattle.image_differ.specs.declared.difference.Part.{Part}
 use Rattle.image_differ.specs.declared.difference.Part.TheVariants as part
 
--- the words of `resume` for the fields that Linux compares, and the names of the others
+-- the words that `resume` uses for the fields that Linux compares, and the names of the others
 abbrev pub part_text : Part → List ℕ
 part_text part.VersionCode = codes "version code"
 part_text part.Sysname = codes "sysname"

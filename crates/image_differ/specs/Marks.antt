@@ -1,4 +1,4 @@
--- What an image says beside its page frames, by its header block and its info page.
+-- What an image says apart from its page frames, in its header block and its info page.
 use Rattle.std.specs.Prelude.{◌≡◌, ℕ, List, Some, Ok}
 use Rattle.definitions.specs.InfoPage.{info_of}
 use Rattle.sig_header.specs.AreaKind.{area_kind}

@@ -1,4 +1,4 @@
--- A reading of an image, page frame by page frame, and whose turn it is.
+-- A reading of an image, page frame by page frame, and which of two readings is next.
 use Rattle.std.specs.Prelude.{◌≡◌, ℕ, ◌+◌, ◌-◌, ◌<◌, ◌≤◌, nat_lt, Bool, true, false, All, List, [], ◌∷◌, ◌++◌}
 use Rattle.std.specs.Prelude.{if◌then◌else◌}
 use Rattle.image_frames.specs.Given.{HasGiven, frame_of}
@@ -24,7 +24,7 @@ AreFrom bound given = All (λ (g : SavedFrame). bound ≤ g.number) given
 abbrev pub AreAll : SideView → List ℕ → List SavedFrame → Type 0
 AreAll v info given = (before now : ℕ) → AreAllGiven v.content v.blocks v.header before now info given
 
--- all are compared: the bound is just above the newest
+-- all page frames were compared: the bound is directly above the newest
 pub record IsUsed (given : List SavedFrame) (bound : ℕ) : Type 0 where
   pub below : AreBelow bound given
   pub least : (n : ℕ) → AreBelow n given → bound ≤ n
@@ -37,7 +37,7 @@ pub record IsHead (given : List SavedFrame) (bound p : ℕ) (page : List ℕ) : 
   pub above : bound ≤ p
   pub small : p < no_frame
 
--- these page frames were given of the image, and those below the bound are compared
+-- these page frames of the image were given, and those below the bound were compared
 abbrev pub IsPlace : SideView → Reading → List SavedFrame → ℕ → Place → Type 0
 IsPlace v r given bound Unread =
     HasGiven v.content v.blocks v.header r.frames given × IsUsed given bound
@@ -48,7 +48,7 @@ IsPlace v r given bound Ended = AreBelow bound given × AreAll v r.frames.number
 pub record IsReading (v : SideView) (r : Reading) (given : List SavedFrame) (bound : ℕ) : Type 0 where
   pub place : IsPlace v r given bound r.place
 
--- how many page frames aren't compared
+-- how many page frames weren't compared yet
 abbrev pub left_at : Frames → Place → ℕ
 left_at f Unread = f.numbers.count - f.numbers.given
 left_at f (At p) = f.numbers.count - f.numbers.given + 1
@@ -57,7 +57,7 @@ left_at f Ended = 0
 abbrev pub frames_left : Reading → ℕ
 frames_left r = left_at r.frames r.place
 
--- the next page frame that isn't compared was read, if there is one
+-- the next page frame that wasn't compared was read, if there is one
 pub record IsReady (v : SideView) (given : List SavedFrame) (bound : ℕ) (old new : Reading) : Type 0 where
   pub more : List SavedFrame
   pub from : AreFrom bound more
@@ -71,7 +71,7 @@ Readies old new given bound p q true = (new.told ≡ old.told) × IsReady old gi
 Readies old new given bound p q false =
     (pages : List (List ℕ)) × IsRefused old.content old.blocks old.header old.faults new.faults old.told new.told pages
 
--- the lower page frame is compared next, or both are where they are the same
+-- the lower page frame is compared next, or both if they are the same
 abbrev pub turn_of : Place → Place → Turn
 turn_of (At p) (At q) = if nat_lt p q then turn.First p else if nat_lt q p then turn.Second q else turn.Both p
 turn_of (At p) Unread = turn.First p

@@ -1,4 +1,4 @@
--- A disk with an image, the block of its header, and who is told of it, at a moment.
+-- A disk with an image, the block of its header, and the report of its findings, at a moment.
 use Rattle.std.specs.Prelude.{◌≡◌, ℕ, ◌≤◌, List, Option}
 use Rattle.definitions.specs.Disk.{Content}
 use Rattle.image_check.specs.Told.{Told}

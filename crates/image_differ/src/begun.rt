@@ -13,11 +13,11 @@ use sector_disk::Disk;
 use sig_header::{AreaKind, Mark};
 use std::alloc::Global;
 
-/// What there is of one of two images.
+/// The result of opening one of two images.
 #[derive(Drop)]
 pub(crate) enum Begun {
     NoImage,
-    /// What is wrong was told.
+    /// The image has a fault, which was reported.
     Refused,
     Open(Heading, Reading),
 }
@@ -26,7 +26,7 @@ pub(crate) enum Begun {
 #[derive(Clone, Copy)]
 pub(crate) enum Marked {
     NoImage,
-    /// The header block couldn't be read, which was told.
+    /// The header block couldn't be read, which was reported.
     Refused,
     Mark(Mark),
 }
@@ -53,7 +53,7 @@ pub(crate) fn begin<D: Disk, R: Report>(
     }
 }
 
-/// An image of which no page frame was read.
+/// Returns an image of which no page frame was read yet.
 fn opened(mark: Mark, frames: Frames) -> Begun
     ensures { (old new : SideView) → new.told ≡ old.told → IsMarkedBy old mark →
         HasGiven old.content old.blocks old.header frames [] → Begins old new result }
@@ -71,7 +71,7 @@ fn opened(mark: Mark, frames: Frames) -> Begun
     Begun::Open(heading, reading)
 }
 
-/// The mark in the header block.
+/// Returns the mark in the header block.
 fn mark_of<D: Disk, R: Report>(side: &mut Side<D, R>) -> Marked
     ensures marks { Marks
         (side_view D.Disk R.Report side.old) (side_view D.Disk R.Report side.new) result }

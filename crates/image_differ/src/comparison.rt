@@ -16,29 +16,29 @@ use std::alloc::Global;
 pub struct Comparison {
     one: Heading,
     two: Heading,
-    /// How many parts of the headings are compared.
+    /// How many parts of the headings were compared.
     parts: u32,
     first: Reading,
     second: Reading,
 }
 
-/// What there was to compare.
+/// The result of opening two images.
 #[derive(Drop)]
 pub enum Opened {
     /// The header block, if the disk has it, isn't marked.
     NoImage(Which),
-    /// What is wrong with the image was told.
+    /// The image has a fault, which was reported.
     Refused(Which),
     Open(Comparison),
 }
 
-/// What comes next.
+/// The next result.
 #[derive(Clone, Copy, Debug, PartialEq, Eq)]
 pub enum Next {
     Difference(Difference),
-    /// All differences were told, and neither image has a finding.
+    /// All differences were reported, and neither image has a finding.
     End,
-    /// The findings of the first block that is named and has some were told.
+    /// The first named block with findings was reached in this image; they were reported.
     Refused(Which),
 }
 
@@ -81,8 +81,8 @@ impl Comparison {
         }
     }
 
-    /// The next difference. It isn't called again after an end or a refusal. The differences that were told are the
-    /// first ones, in order; an end says that they are all.
+    /// Returns the next difference. After an end or a refusal it isn't called again. The differences that were returned
+    /// are the first ones, in order; an end says that they are all.
     pub fn next<D: Disk, E: Disk, R: Report, Q: Report>(
         &mut self,
         first: &mut Side<D, R>,
@@ -107,7 +107,8 @@ impl Comparison {
         }
     }
 
-    /// Compares the next page frame, once all parts of the headings are compared. Goes on where the pages are the same.
+    /// Compares the next page frame, once all parts of the headings were compared. Returns nothing if the pages are the
+    /// same.
     fn step<D: Disk, E: Disk, R: Report, Q: Report>(
         &mut self,
         first: &mut Side<D, R>,
@@ -154,7 +155,7 @@ impl Comparison {
     }
 }
 
-/// The next difference of two headings, of which so many parts are compared.
+/// Returns the next difference of two headings, of which the first `parts` parts were compared.
 fn next_part(one: &Heading, two: &Heading, parts: &mut u32) -> Option<Difference>
     requires { parts.old ≤ 10 }
     ensures difference { heading_differences one.now two.now parts.new

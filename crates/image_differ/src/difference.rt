@@ -10,20 +10,20 @@ pub enum Part {
     Domainname,
 }
 
-/// In what two images differ.
+/// A difference between two images.
 #[derive(Clone, Copy, Debug, PartialEq, Eq)]
 pub enum Difference {
     /// The flags of their marks.
     Flags { first: u32, second: u32 },
-    /// The hardware signatures of their marks, of which one at least counts.
+    /// The hardware signatures of their marks, at least one of which counts.
     HardwareSignature { first: u32, second: u32 },
     Identity(Part),
-    /// How many pages of memory their machines have (`num_physpages`).
+    /// The number of page frames of their machines (`num_physpages`).
     MemorySize { first: u64, second: u64 },
-    /// The first alone saved this page frame.
+    /// Only the first image saved this page frame.
     FirstAlone(u64),
-    /// The second alone saved this page frame.
+    /// Only the second image saved this page frame.
     SecondAlone(u64),
-    /// Both saved this page frame, with another page in each.
+    /// Both images saved this page frame, with different pages.
     Page(u64),
 }

@@ -6,13 +6,13 @@ ghost use Rattle.image_differ.specs.Headings.{version_code_difference};
 use crate::{Difference, Part};
 use image_header::{Ident, Info};
 
-/// How many parts of two headings are compared.
+/// The number of parts of two headings that are compared.
 pub(crate) const PARTS: u32 = 10;
 
 /// SF_HW_SIG: the mark has a hardware signature.
 const SF_HW_SIG: u32 = 8;
 
-/// What an image says beside its page frames: in its mark and in its info page.
+/// What an image says apart from its page frames, in its mark and in its info page.
 #[derive(Clone, Copy)]
 pub struct Heading {
     pub flags: u32,
@@ -20,7 +20,7 @@ pub struct Heading {
     pub info: Info,
 }
 
-/// In what two headings differ at a part.
+/// Returns how two headings differ in a part.
 pub(crate) fn heading_difference(first: &Heading, second: &Heading, part: u32) -> Option<Difference>
     requires { part < 10 }
     ensures { result ≡ heading_difference part first.now second.now }
@@ -53,7 +53,7 @@ fn flags_difference(first: &Heading, second: &Heading) -> Option<Difference>
     }
 }
 
-/// A hardware signature counts where its flag is set.
+/// Returns the difference of the hardware signatures. A signature counts if its flag is set.
 fn signature_difference(first: &Heading, second: &Heading) -> Option<Difference>
     ensures { result ≡ signature_difference first.now second.now }
 {
@@ -79,7 +79,7 @@ fn version_code_difference(first: &Ident, second: &Ident) -> Option<Difference>
     }
 }
 
-/// Names are compared with all of their bytes, those behind a zero byte too.
+/// Returns the difference of a name. All bytes of the names are compared, including those after a zero byte.
 fn name_difference(first: &Ident, second: &Ident, name: usize) -> Option<Difference>
     requires { name < 6 }
     ensures { result ≡ name_difference name first.now second.now }

@@ -8,14 +8,14 @@ use image_frames::{Frames, Next};
 use page_core::Page;
 use sector_disk::Disk;
 
-/// Where a reading of an image has come to.
+/// The position of a reading of an image.
 #[derive(Clone, Copy)]
 pub(crate) enum Place {
-    /// The page frame that was read last is compared.
+    /// The page frame that was read last was compared.
     Unread,
-    /// The page frame of this number is next to be compared.
+    /// The page frame with this number is compared next.
     At(u64),
-    /// All are compared.
+    /// All page frames were compared.
     Ended,
 }
 
@@ -33,7 +33,7 @@ impl Reading {
     ghost use Rattle.image_differ.specs.Readings.{IsReading, Readies};
     ghost use Rattle.image_differ.specs.Sides.{OnlyReads, side_view};
 
-    /// Goes on to the next page frame that isn't compared, and answers whether nothing was wrong.
+    /// Continues to the next page frame that wasn't compared, and returns whether nothing was wrong.
     pub fn ready<D: Disk, R: Report>(&mut self, side: &mut Side<D, R>) -> bool
         requires { (given : List SavedFrame) × ((bound : ℕ) ×
             IsReading (side_view D.Disk R.Report side.old) self.old given bound) }
@@ -58,24 +58,24 @@ impl Reading {
     }
 }
 
-/// Whether two pages hold the same bytes.
+/// Returns whether two pages hold the same bytes.
 pub(crate) fn is_same_page(first: &Page, second: &Page) -> bool
     ensures { result ≡ pointwise nat_eq first.now second.now }
 {
     first.as_bytes() == second.as_bytes()
 }
 
-/// Which page frame is compared next, the lower one of two.
+/// The page frame that is compared next: the lower of two.
 #[derive(Clone, Copy)]
 pub(crate) enum Turn {
     First(u64),
     Second(u64),
     Both(u64),
-    /// None is left in either.
+    /// No page frame is left in either image.
     End,
 }
 
-/// Whose turn it is.
+/// Returns which of two readings is next.
 pub(crate) fn turn_of(first: Place, second: Place) -> Turn
     ensures { result ≡ turn_of first second }
 {

@@ -1,4 +1,4 @@
-/// A disk with an image, and who is told what is wrong with it.
+/// A disk with an image, and the report that receives its findings.
 #[derive(Drop)]
 pub struct Side<D, R> {
     pub disk: D,

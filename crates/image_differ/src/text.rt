@@ -1,4 +1,4 @@
-//! The lines that are printed of differences.
+//! The lines that are printed for differences.
 ghost use Rattle.std.specs.Prelude.{◌≡◌, ◌+◌, ◌≤◌, ◌++◌, length};
 ghost use Rattle.image_check.specs.Lines.{named};
 ghost use Rattle.image_differ.specs.Lines.{difference_text, line_of, pair_text, part_text};
@@ -6,7 +6,7 @@ ghost use Rattle.image_differ.specs.Lines.{difference_text, line_of, pair_text, 
 use crate::{Difference, Part};
 use byte_streams::Line;
 
-/// The line of a difference.
+/// Returns the line of a difference.
 pub fn line_of(difference: &Difference) -> Line
     ensures { result ≡ line_of difference.now }
 {

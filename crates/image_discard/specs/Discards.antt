@@ -1,4 +1,4 @@
--- What giving an image up makes of a disk.
+-- What a discard makes of a disk.
 use Rattle.std.specs.Prelude.{◌≡◌, ℕ, ◌≤◌, ◌⊎◌, List, Option, Some, None}
 use Rattle.std.specs.Option.{IfSome}
 use Rattle.definitions.specs.Disk.{Content, DiskImage, IsImage, as_it_reads, block, Writes, FailsToWrite, Syncs}
@@ -9,7 +9,7 @@ use Rattle.image_discard.specs.declared.discarding.Discarded.TheVariants.{Done, 
 use Rattle.image_discard.specs.declared.discarding.Fault.{Fault}
 use Rattle.image_discard.specs.declared.discarding.Fault.TheVariants.{Read, Write, Sync}
 
--- the page is what a block of the disk reads as, where that is told
+-- the page is what a block of the disk reads as, if the disk tells its content
 abbrev pub Reads : ℕ → Option Content → List ℕ → Type 0
 Reads b content page = IfSome content (λ held. page ≡ block (as_it_reads held) b)
 

@@ -9,34 +9,33 @@ use sector_disk::Disk;
 use sig_header::take_back;
 use thiserror::Error;
 
-/// What became of an image.
+/// What became of an image that was to be discarded.
 #[derive(Clone, Copy, Debug, PartialEq, Eq)]
 pub enum Discarded {
-    /// The mark is taken back, and synced.
+    /// The mark was taken back, and the write synced.
     Done,
     /// There is no header block, or it has no mark. Nothing was written.
     NoImage,
-    /// `orig_sig` is the signature of an image too, so that there is nothing to take the mark back to. Nothing was
-    /// written.
+    /// `orig_sig` is the signature of an image too, so there is nothing to take the mark back to. Nothing was written.
     NoOriginal,
 }
 
-/// A call of the disk that failed. Its text says what is left.
+/// A call of the disk that failed. Each variant says what that leaves.
 #[derive(Clone, Copy, Debug, PartialEq, Eq, Error)]
 pub enum Fault {
     /// Nothing was written.
     #[error("read fault same")]
     Read,
-    /// Each sector of the header block is as before or taken back.
+    /// Each sector of the header block is either as before or taken back.
     #[error("write fault unsure")]
     Write,
-    /// The mark is taken back, as the disk reads, but a power cut may leave it.
+    /// The mark is taken back as the disk reads, but a power cut may still bring it back.
     #[error("sync fault unsure")]
     Sync,
 }
 
-/// Takes back the mark of the area whose header lies in a block, whatever kernel its image is of and however it is
-/// saved: `sig` gets `orig_sig`, and all other bytes of the disk stay (`swsusp_check`, kernel/power/swap.c).
+/// Takes back the mark of the area whose header lies in block `header`, whatever kernel the image is of and however it
+/// is saved: `sig` gets `orig_sig`, and all other bytes of the disk stay (`swsusp_check`, kernel/power/swap.c).
 pub fn discard<D: Disk>(disk: &mut D, header: u32) -> Result<Discarded, Fault>
     ensures ends { IfOk result (Ends header (D.block_count disk.old) (D.content disk.old) (D.content disk.new)) }
     ensures unmarked { result ≡ Ok Discarded.Done → IfSome (D.content disk.new) (LeavesNoImage header) }

@@ -1,4 +1,4 @@
-//! Gives an image up: the mark in the header block of its area is taken back.
+//! Discards an image by taking back the mark in the header block of its area.
 #![tactic(auto)]
 
 mod discarding;

@@ -4,12 +4,12 @@ ghost use Rattle.definitions.specs.SwapHeader.{IsMarked, sig_of};
 
 use page_core::Page;
 
-/// Where the signature lies, and that of an image (HIBERNATE_SIG, kernel/power/swap.c).
+/// The offset of the signature, and the signature of an image (HIBERNATE_SIG, kernel/power/swap.c).
 const SIG: usize = 4086;
 
 const IMAGE: [u8; 10] = *b"S1SUSPEND\0";
 
-/// Whether a header block carries the signature of an image.
+/// Returns whether a header block carries the signature of an image.
 pub(crate) fn is_marked(page: &Page) -> bool
     ensures marked { IsTrue result ↔ IsMarked page.now }
     ensures page { IsPage page.now }

@@ -1,4 +1,4 @@
--- The numbers of an image that a plan was given.
+-- The numbers of an image that were added to a plan.
 use Rattle.std.specs.Prelude.{◌≡◌, ℕ, List, Option, Contains}
 use Rattle.definitions.specs.Disk.{Content}
 use Rattle.definitions.specs.Zones.{numbers}

@@ -1,4 +1,4 @@
--- What there is of an image before its numbers are read.
+-- What is known of an image before its numbers are read.
 use Rattle.std.specs.Prelude.{◌≡◌, ℕ, [], Option}
 use Rattle.definitions.specs.Disk.{Content}
 use Rattle.image_check.specs.Told.{Told}

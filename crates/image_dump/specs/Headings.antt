@@ -22,7 +22,7 @@ area_in (kind.Other sig) = None
 area_in (kind.BadArea why) = None
 area_in (kind.Swap area) = Some area
 
--- the hardware signature of a mark, which counts where SF_HW_SIG, which is 8, is set
+-- the hardware signature of a mark, which counts if SF_HW_SIG, which is 8, is set
 abbrev pub signature_of : Mark → ℕ
 signature_of mark = if mark.flags / 8 % 2 == 0 then 0 else mark.hw_sig
 
@@ -31,14 +31,14 @@ pub record IsMarkedBlock (content : Option Content) (header : ℕ) (page : List 
   pub read : IsReadFrom content header (Ok page)
   pub marked : mark_in (area_kind page) ≡ Some mark
 
--- The heading that a header block, without this mark, and what an info page says give.
+-- The heading that follows from a header block, without this mark, and from what an info page says.
 pub record Gives (page : List ℕ) (mark : Mark) (info : Info) (h : Heading) : Type 0 where
   pub area : area_in (area_kind (taken_back page)) ≡ Some h.area
   pub hw_sig : h.hw_sig ≡ signature_of mark
   pub ident : h.ident ≡ info.ident
   pub physpages : h.physpages ≡ info.physpages
 
--- there is none where the block isn't that of a version 1 area
+-- there is no heading if the block isn't that of a version 1 area
 abbrev pub IsHeadingBy : List ℕ → Mark → Info → Option Heading → Type 0
 IsHeadingBy page mark info None = area_in (area_kind (taken_back page)) ≡ None
 IsHeadingBy page mark info (Some h) = Gives page mark info h
@@ -60,7 +60,7 @@ pub record IsHeadingOf (content : Option Content) (header : ℕ) (h : Heading) :
   pub ident : h.ident ≡ (info_of info).ident
   pub physpages : h.physpages ≡ (info_of info).physpages
 
--- without the mark the header block isn't that of a version 1 area
+-- without its mark, the header block isn't that of a version 1 area
 pub record HasNoArea (content : Option Content) (header : ℕ) : Type 0 where
   pub page : List ℕ
   pub mark : Mark

@@ -1,4 +1,4 @@
--- What there is of the heading of an image.
+-- What is known of the heading of an image.
 use Rattle.std.specs.Prelude.{ℕ, Option}
 use Rattle.definitions.specs.Disk.{Content}
 use Rattle.image_dump.specs.Headings.{HasNoArea, HasNoMark, IsHeadingOf}

@@ -1,4 +1,4 @@
--- The saved page frames of an image that a plan was given, with their pages.
+-- The saved page frames of an image that were added to a plan, with their pages.
 use Rattle.std.specs.Prelude.{◌≡◌, ℕ, List, map, Option, Contains}
 use Rattle.definitions.specs.Disk.{Content}
 use Rattle.definitions.specs.Zones.{numbers}
@@ -13,7 +13,7 @@ use Rattle.image_pages.specs.Ends.{IsRefused}
 use Rattle.image_dump.specs.declared.adding.Added.{Added}
 use Rattle.image_dump.specs.declared.adding.Added.TheVariants.{All, Refused, Limit as Passed}
 
--- the number and the page of each
+-- the number and the page of each page frame
 abbrev pub pages_of : List SavedFrame → List (ℕ × List ℕ)
 pages_of given = map (λ (g : SavedFrame). (g.number, g.page)) given
 

@@ -21,11 +21,11 @@ use Rattle.image_dump.specs.Lays.{pages_of}
 use Rattle.image_dump.specs.declared.made.Made.{Made}
 use Rattle.image_dump.specs.declared.made.Made.TheVariants.{NoImage, Refused, NoArea, Limit as Passed, Dump}
 
--- A machine is made of the heading of an area, and of page frames that are read by the chain of a header block. An
--- image that isn't compressed has both on its area. Of a compressed one the page frames are those of the plain image
+-- A machine is made from the heading of an area, and from page frames that are read by the chain of a header block. An
+-- image that isn't compressed has both in its area. For a compressed one, the page frames are those of the plain image
 -- that it expands to, on a disk of its own.
 
--- The image has no machine of this layout, since this limit is passed: whatever page frames were saved, by the last
+-- The image has no machine of this layout, because this limit is violated: whatever page frames were saved, by the last
 -- of the first numbers, or by all of them.
 pub data HasLimit (area content : Option Content) (header : ℕ) (layout : Layout) (passed : Limit) : Type 0 where
   at_once : (heading : Heading) → IsHeadingOf area layout.offset heading → PassesAtOnce heading layout passed →
@@ -51,7 +51,7 @@ pub record IsLoaderFrom (area content : Option Content) (header : ℕ) (layout :
 abbrev pub IsLoaderOf : Option Content → Layout → MachineDump → Type 0
 IsLoaderOf content layout dump = IsLoaderFrom content content layout.offset layout dump
 
--- What was made, where these limits and dumps are an image's. Findings are those of the header block that is read.
+-- What was made, if these are the limits and dumps of an image. Findings are those of the header block that is read.
 abbrev pub MakesBy : (no_area : Type 0) → (Limit → Type 0) → (MachineDump → Type 0) → Option Content →
     (blocks header before now : ℕ) → (told then : Told) → Made → Type 0
 MakesBy no_area limits dumps content blocks header before now told then NoImage =
@@ -72,8 +72,8 @@ abbrev pub Makes : Option Content → (blocks before now : ℕ) → (told then :
 Makes content blocks before now told then layout made =
     MakesFrom content content blocks layout.offset before now told then layout made
 
--- The machine that the image saved isn't one of this layout, with tables from these page frames on or without: since
--- this limit is passed whatever page frames were saved, by the last of the first ones, or by all of them.
+-- The machine that the image saved isn't one of this layout, with or without tables from these page frames on, because
+-- this limit is violated: whatever page frames were saved, by the last of the first ones, or by all of them.
 pub data HasMachineLimit (area content : Option Content) (header : ℕ) (layout : Layout) (tables : Option (ℕ × ℕ))
     (passed : Limit) : Type 0 where
   passed_at_once : (heading : Heading) → IsHeadingOf area layout.offset heading →

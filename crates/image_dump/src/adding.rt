@@ -11,15 +11,15 @@ use sector_disk::Disk;
 /// What became of the numbers of an image.
 #[derive(Clone, Copy)]
 pub(crate) enum Added {
-    /// All were taken.
+    /// All numbers were added.
     All,
-    /// What is wrong with the image was told.
+    /// The image has a fault, which was reported.
     Refused,
     /// The plan has no place for a page frame.
     Limit(Limit),
 }
 
-/// Reads the numbers of an image to their end, and gives them to a plan that has none.
+/// Reads the numbers of an image to their end, and adds them to a plan that has none.
 pub(crate) fn add_all<D: Disk, R: Report>(
     plan: &mut Plan<'_>,
     numbers: &mut Numbers,

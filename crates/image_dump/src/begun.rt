@@ -14,13 +14,13 @@ use sector_disk::Disk;
 use sig_header::{AreaKind, Mark};
 use std::alloc::Global;
 
-/// What there is of an image.
+/// What is known of an image before its numbers are read.
 #[derive(Drop)]
 pub(crate) enum Begun {
     NoImage,
-    /// What is wrong was told.
+    /// The image has a fault, which was reported.
     Refused,
-    /// Without the mark the header block isn't that of a version 1 area.
+    /// Without its mark, the header block isn't that of a version 1 area.
     NoArea,
     Open(Heading, Numbers),
 }
@@ -29,12 +29,12 @@ pub(crate) enum Begun {
 #[derive(Drop)]
 pub(crate) enum Marked {
     NoImage,
-    /// The header block couldn't be read, which was told.
+    /// The header block couldn't be read, which was reported.
     Refused,
     Block(Page, Mark),
 }
 
-/// Opens the image of the area whose header lies in a block.
+/// Opens the image of the area whose header lies in block `header`.
 #[inline(never)]
 pub(crate) fn begin<D: Disk, R: Report>(
     alloc: Global,
@@ -62,7 +62,7 @@ pub(crate) fn begin<D: Disk, R: Report>(
     }
 }
 
-/// An image of which no number was read, by its header block.
+/// Returns an image of which no number was read yet, given its header block.
 #[inline(never)]
 fn opened(block: &Page, mark: &Mark, numbers: Numbers) -> Begun
     ensures { (content : Option Content) (blocks header before now : ℕ) (told then : Told) → then ≡ told →
@@ -75,7 +75,7 @@ fn opened(block: &Page, mark: &Mark, numbers: Numbers) -> Begun
     }
 }
 
-/// The header block, if it has the mark of an image.
+/// Returns the header block, if it has the mark of an image.
 fn marked_block<D: Disk, R: Report>(disk: &mut D, header: u32, report: &mut R) -> Marked
     ensures marks { Marks (D.content disk.old) (D.block_count disk.old) header
         (D.faults disk.old) (D.faults disk.new) (R.told report.old) (R.told report.new) result }

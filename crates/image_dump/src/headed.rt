@@ -11,16 +11,16 @@ use image_machine::Heading;
 use page_core::Page;
 use sig_header::{Area, AreaKind, Mark, SF_HW_SIG, take_back};
 
-/// What there is of the heading of an image.
+/// What is known of the heading of an image.
 #[derive(Clone, Copy)]
 pub enum Headed {
     NoImage,
-    /// Without the mark the header block isn't that of a version 1 area.
+    /// Without its mark, the header block isn't that of a version 1 area.
     NoArea,
     Heading(Heading),
 }
 
-/// The heading of an image of which the header block and the info page were read.
+/// Returns the heading of an image whose header block and info page were read.
 pub fn heading_in(block: &Page, info: &Page) -> Headed
     ensures { (content : Option Content) (header : ℕ) → IsReadFrom content header (Ok block.now) →
         IsChainPage content header 0 info.now → Heads content header result }
@@ -34,7 +34,7 @@ pub fn heading_in(block: &Page, info: &Page) -> Headed
     }
 }
 
-/// The heading that a header block with this mark, and what an info page says, give.
+/// Returns the heading that follows from a header block with this mark and from what an info page says.
 pub(crate) fn heading_of(block: &Page, mark: &Mark, info: &Info) -> Option<Heading>
     ensures { IsHeadingBy block.now mark.now info.now result }
 {
@@ -47,7 +47,7 @@ pub(crate) fn heading_of(block: &Page, mark: &Mark, info: &Info) -> Option<Headi
     })
 }
 
-/// The version 1 area that a header block describes.
+/// Returns the version 1 area that a header block describes.
 fn area_in(kind: AreaKind) -> Option<Area>
     ensures { result ≡ area_in kind }
 {
@@ -57,7 +57,7 @@ fn area_in(kind: AreaKind) -> Option<Area>
     }
 }
 
-/// The hardware signature of a mark, which counts where its flag is set.
+/// Returns the hardware signature of a mark, which counts if its flag is set.
 fn signature_of(mark: &Mark) -> u32
     ensures { result ≡ signature_of mark.now }
 {

@@ -10,7 +10,7 @@ use image_machine::FilledPlan;
 use page_core::Page;
 use sector_disk::Disk;
 
-/// Reads the saved page frames of an image to their end, and gives them to a plan that has none.
+/// Reads the saved page frames of an image to their end, and adds them to a plan that has none.
 pub(crate) fn lay_all<D: Disk, R: Report>(
     filled: &mut FilledPlan<'_>,
     frames: &mut Frames,

@@ -14,9 +14,9 @@ use page_core::NoMemory;
 use sector_disk::Disk;
 use std::alloc::Global;
 
-/// Makes the dump of a loader into which the image of an area can be resumed: a machine that has just booted, of
-/// which no page frame that the image saves is a table's. Of the image its header block, its info page and its number
-/// pages are read, the first two twice, so that a limit which they pass is told before a number is read.
+/// Makes the dump of a loader into which the image of an area can be resumed: a machine that has just booted, whose
+/// tables lie in no page frame that the image saves. The header block, the info page and the number pages of the image
+/// are read, the first two twice, so that a limit which they violate is reported before a number is read.
 pub fn loader_of<D: Disk, R: Report>(
     alloc: Global,
     disk: &mut D,
@@ -44,7 +44,7 @@ pub fn loader_of<D: Disk, R: Report>(
     loader_from(alloc, &asked, disk, layout.offset, report)
 }
 
-/// The same, of an image of which the heading was read. Its numbers are read by the header block of any disk.
+/// Does the same for an image whose heading was read. Its numbers are read by the header block of any disk.
 pub fn loader_from<D: Disk, R: Report>(
     alloc: Global,
     asked: &Asked<'_>,

@@ -1,7 +1,7 @@
 use image_machine::{Heading, Layout, Limit};
 use machine::Dump;
 
-/// A machine that is asked for: what its image says of it, and where its area lies.
+/// A requested machine: what its image says of it, and where its area lies.
 #[derive(Clone, Copy)]
 pub struct Asked<'a> {
     pub heading: Heading,
@@ -13,11 +13,11 @@ pub struct Asked<'a> {
 pub enum Made {
     /// The header block, if the disk has it, isn't marked.
     NoImage,
-    /// The findings of the header block, or of the first block that is named and has some, were told.
+    /// The header block, or the first named block that has findings, was refused; the findings were reported.
     Refused,
-    /// Without the mark the header block isn't that of a version 1 area.
+    /// Without its mark, the header block isn't that of a version 1 area.
     NoArea,
-    /// There is no such machine.
+    /// No such machine exists.
     Limit(Limit),
     Dump(Dump),
 }

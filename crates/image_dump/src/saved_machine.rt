@@ -15,10 +15,10 @@ use page_core::NoMemory;
 use sector_disk::Disk;
 use std::alloc::Global;
 
-/// Makes the dump of the machine that the image of an area saved: its page frames in use are the saved ones, with
-/// their pages, and it can hibernate again. Its frame table and its slot table are in the image, from these page
-/// frames on, or else it is given new ones in page frames that the image doesn't save. The image is read to its end;
-/// its header block and its info page are read twice, so that a limit which they pass is told before a page is read.
+/// Makes the dump of the machine that the image of an area saved: its page frames in use are the saved ones, with their
+/// pages, and it can hibernate again. Its frame table and its slot table are in the image, from these page frames on;
+/// without them it gets new ones in page frames that the image doesn't save. The image is read to its end; its header
+/// block and its info page are read twice, so that a limit which they violate is reported before a page is read.
 pub fn machine_of<D: Disk, R: Report>(
     alloc: Global,
     disk: &mut D,
@@ -47,7 +47,7 @@ pub fn machine_of<D: Disk, R: Report>(
     machine_from(alloc, &asked, tables, disk, layout.offset, report)
 }
 
-/// The same, of an image of which the heading was read. Its page frames are read by the header block of any disk.
+/// Does the same for an image whose heading was read. Its page frames are read by the header block of any disk.
 pub fn machine_from<D: Disk, R: Report>(
     alloc: Global,
     asked: &Asked<'_>,
@@ -72,7 +72,7 @@ pub fn machine_from<D: Disk, R: Report>(
     }
 }
 
-/// Makes the machine of an image of which the heading was read.
+/// Makes the machine of an image whose heading was read.
 #[inline(never)]
 fn fill<D: Disk, R: Report>(
     alloc: Global,

@@ -16,7 +16,7 @@ use Rattle.image_facts.specs.declared.fact.Fact.TheVariants as fact
 use Rattle.image_facts.specs.declared.fact.Flag.{Flag}
 use Rattle.image_facts.specs.declared.fact.Flag.TheVariants as flag
 
--- a label (sws_volume), where it isn't empty
+-- a label (sws_volume), if it isn't empty
 abbrev pub label_facts : List ℕ → List Fact
 label_facts label = if length (text_of_name label) == 0 then [] else fact.Label label ∷ []
 
@@ -50,12 +50,12 @@ mark_facts page mark =
     (fact.FirstMap mark.first ∷ fact.Flags mark.flags ∷ []) ++ flag_facts mark.flags
     ++ fact.HwSig mark.hw_sig ∷ fact.Crc32 (number_at 4 page 4060) ∷ []
 
--- a header block with a mark describes the area that it is once it is taken back
+-- if a header block has a mark, the area is the one that it describes once its mark is taken back
 abbrev pub facts_by_mark : List ℕ → Option Mark → List Fact
 facts_by_mark page None = fact.Image false ∷ area_facts page (area_kind page)
 facts_by_mark page (Some mark) = fact.Image true ∷ area_facts (taken_back page) (area_kind (taken_back page))
     ++ mark_facts page mark
 
--- all that a header block says, in a file of so many blocks
+-- all that a header block says, in a file with the given number of blocks
 abbrev pub header_facts : ℕ → List ℕ → List Fact
 header_facts blocks page = fact.Blocks blocks ∷ facts_by_mark page (mark_in (area_kind page))

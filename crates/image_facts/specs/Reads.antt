@@ -14,19 +14,19 @@ block_of_part (part.Map maps b) = b
 block_of_part (part.Info b) = b
 block_of_part (part.Page b) = b
 
--- the name that a part is, with its page
+-- the name of a part, with its page
 abbrev pub name_of_part : Part → List ℕ → Name
 name_of_part (part.Map maps b) page = map_at b (Ok page)
 name_of_part (part.Info b) page = page_at b (Ok page)
 name_of_part (part.Page b) page = page_at b (Ok page)
 
--- its place: how many maps there are with it; of a page, whether it is the first
+-- the place of a part: how many maps there are up to it; of a page, whether it is the first
 abbrev pub IsPart : List Name → Part → Type 0
 IsPart h (part.Map maps b) = maps ≡ maps_in h + 1
 IsPart h (part.Info b) = pages_in h ≡ []
 IsPart h (part.Page b) = 0 < length (pages_in h)
 
--- how many pages are wanted after these
+-- how many more pages are wanted after these
 abbrev pub wanted_after : List (List ℕ) → Option ℕ
 wanted_after [] = None
 wanted_after (info ∷ rest) = Some (number_at 8 info 424 - (length rest + 1))
@@ -34,7 +34,7 @@ wanted_after (info ∷ rest) = Some (number_at 8 info 424 - (length rest + 1))
 abbrev pub HasWanted : Option ℕ → List Name → Type 0
 HasWanted wanted h = wanted ≡ wanted_after (pages_in h)
 
--- a name is told, and is a part
+-- a name counts, and is this part
 pub record TakesPart (h : List Name) (x : Name) (p : Part) (left : Option ℕ) (page : List ℕ) : Type 0 where
   pub is : x ≡ name_of_part p page
   pub told : is_told h x ≡ true
@@ -50,7 +50,7 @@ pub record Reads (first : ℕ) (r : Reading) (h : List Name) : Type 0 where
   pub told : AreTold h
   pub wanted : HasWanted r.wanted h
 
--- a step shows the next name, which is told, and the reading follows it
+-- a step shows the next name, which counts, and the reading follows it
 pub record ReadsOn (first : ℕ) (content : Option Content) (before now : ℕ) (h : List Name) (old new : Reading)
     (p : Part) (page : List ℕ) : Type 0 where
   pub seen : IsSeen old.walker.limits first content before now h (name_of_part p page)

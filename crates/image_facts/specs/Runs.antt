@@ -15,8 +15,8 @@ abbrev pub end_of : Option (ℕ × ℕ) → ℕ
 end_of None = 0
 end_of (Some run) = run.0 + run.1
 
--- These are the runs of the numbers: those that have ended, and the last one, which may go on. There is none where
--- there is no number.
+-- These are the runs of the numbers: those that have ended, and the last one, which may go on. Without any number there
+-- is no last run.
 pub record IsUpTo (numbers : List ℕ) (last : Option (ℕ × ℕ)) (ended : List (ℕ × ℕ)) : Type 0 where
   pub runs : runs_of numbers ≡ ended ++ list_of last
   pub begun : last ≡ None → ended ≡ []

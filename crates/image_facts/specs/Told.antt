@@ -1,4 +1,4 @@
--- What is told of the blocks that an image names: of those up to its last page.
+-- What is known of the blocks that an image names, up to its last page.
 use Rattle.std.specs.Prelude.{◌≡◌, ℕ, ◌+◌, true, false, Bool, List, [], ◌∷◌, ◌++◌, length, map, take, flat_map, nat_lt}
 use Rattle.std.specs.Prelude.{Option, Ok, Err}
 use Rattle.std.specs.List.{range_with_len}
@@ -13,7 +13,7 @@ use Rattle.image_facts.specs.InfoFacts.{info_facts}
 use Rattle.image_facts.specs.declared.fact.Fact.{Fact}
 use Rattle.image_facts.specs.declared.fact.Fact.TheVariants as fact
 
--- the pages that entries name, and all blocks, in the order in which they are read
+-- the pages that entries name, and all blocks, in the order of reading
 abbrev pub pages_in : List Name → List (List ℕ)
 pages_in [] = []
 pages_in (map_at b answer ∷ h) = pages_in h
@@ -24,12 +24,12 @@ abbrev pub blocks_in : List Name → List ℕ
 blocks_in [] = []
 blocks_in (x ∷ h) = blocks_in h ++ block_of x ∷ []
 
--- after these pages one more is wanted: the info page, and as many as it says the image has
+-- after these pages one more is wanted: the info page, or one of as many as it says the image has
 abbrev pub is_wanted : List (List ℕ) → Bool
 is_wanted [] = true
 is_wanted (info ∷ rest) = nat_lt (length rest + 1) (number_at 8 info 424)
 
--- a block is told where it was read, and is a map or a page that is wanted
+-- a block counts if it was read, and is a map or a page that is wanted
 abbrev pub is_told : List Name → Name → Bool
 is_told h (map_at b (Ok page)) = true
 is_told h (map_at b (Err why)) = false
@@ -40,14 +40,14 @@ abbrev pub AreTold : List Name → Type 0
 AreTold [] = Unit {0}
 AreTold (x ∷ h) = AreTold h × (is_told h x ≡ true)
 
--- A front of a reading of the image whose first map is named: each name follows those before it, and is told. The pages
+-- A prefix of a reading of the image whose first map is named: each name follows those before it, and counts. The pages
 -- are those that the disk holds.
 pub record IsFront (l : Limits) (first : ℕ) (content : Option Content) (h : List Name) : Type 0 where
   pub reading : IsReading l first h
   pub told : AreTold h
   pub pages : AreReadFrom content h
 
--- the next name isn't told
+-- the next name doesn't count
 abbrev pub IsEnd : Limits → ℕ → Option Content → (before now : ℕ) → List Name → Type 0
 IsEnd l first content before now h = (x : Name) × (IsSeen l first content before now h x × (is_told h x ≡ false))
 
@@ -60,8 +60,8 @@ facts_of_first (info ∷ rest) = info_facts info
 unfoldable pub words_of : List ℕ → List ℕ
 words_of page = map (word page) (range_with_len 0 512)
 
--- The page frame numbers are the first words of the pages that follow the info page, as many as it says that page
--- frames were saved.
+-- The page frame numbers are the first words of the pages after the info page, as many as page frames were saved by the
+-- info page.
 unfoldable pub numbers_in : List (List ℕ) → List ℕ
 numbers_in [] = []
 numbers_in (info ∷ rest) = take (number_at 8 info 416) (flat_map words_of rest)
@@ -69,7 +69,7 @@ numbers_in (info ∷ rest) = take (number_at 8 info 416) (flat_map words_of rest
 abbrev pub frames_in : Format → List Name → List ℕ
 frames_in format h = map (frame_of format) (numbers_in (pages_in h))
 
--- all numbers are in the pages that follow the info page
+-- all numbers are on the pages after the info page
 abbrev pub HasNumbers : List (List ℕ) → Type 0
 HasNumbers [] = ⊥
 HasNumbers (info ∷ rest) = length (numbers_in (info ∷ rest)) ≡ number_at 8 info 416

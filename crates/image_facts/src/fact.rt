@@ -1,7 +1,7 @@
 use fact_lines::Name;
 use sig_header::AreaFault;
 
-/// What an info page begins with.
+/// The beginning of an info page.
 #[derive(Clone, Copy, Debug, PartialEq, Eq)]
 pub enum Header {
     /// The version code and the names (`init_header_complete`, kernel/power/snapshot.c).
@@ -24,18 +24,18 @@ pub enum Flag {
     Crc32,
     /// SF_HW_SIG, 8.
     HwSig,
-    /// Pages of zeros have no data page, 256 (own).
+    /// Pages of zeros have no data page, 256 (this project's own).
     ZerosSkipped,
 }
 
-/// What a line says of an area and its image.
+/// What one line says of an area and its image.
 #[derive(Clone, Copy, Debug, PartialEq, Eq)]
 pub enum Fact {
-    /// How many blocks the file or the device has.
+    /// The number of blocks of the file or device.
     Blocks(u32),
     /// The file or the device has no header block.
     HeaderMissing,
-    /// The header block can't be read.
+    /// The header block couldn't be read.
     HeaderUnread,
     /// Whether the header block is marked.
     Image(bool),
@@ -45,12 +45,12 @@ pub enum Fact {
     AreaOld,
     /// `orig_sig` is the signature of an image.
     AreaImage,
-    /// No signature of a swap area.
+    /// A signature that isn't a swap area's.
     AreaOther([u8; 10]),
     AreaBad(AreaFault),
     /// The last slot (`last_page`).
     LastPage(u32),
-    /// How many bad pages there are (`nr_badpages`), and each of them (`badpages`).
+    /// The number of bad pages (`nr_badpages`), and each of them (`badpages`).
     BadPages(u32),
     BadPage(u32),
     /// `sws_uuid`.
@@ -69,7 +69,7 @@ pub enum Fact {
     /// LINUX_VERSION_CODE, and the three numbers in it.
     VersionCode(u32),
     Kernel(u32, u32, u32),
-    /// Where the restored kernel goes on, its physical address, and its page tables.
+    /// Where the restored kernel continues, its physical address, and its page tables.
     JumpAddress(u64),
     JumpAddressPhysical(u64),
     Cr3(u64),
@@ -77,27 +77,27 @@ pub enum Fact {
     MemoryMapChecksum(u64),
     /// `uts_version`.
     KernelVersion([u8; 65]),
-    /// How many page frames the machine has (`num_physpages`).
+    /// The number of page frames of the machine (`num_physpages`).
     MemoryPages(u64),
-    /// How many page frames were saved (`image_pages`).
+    /// The number of page frames that were saved (`image_pages`).
     ImagePages(u64),
-    /// How many pages the image has, the info page among them (`pages`).
+    /// The number of pages of the image, including the info page (`pages`).
     StreamPages(u64),
-    /// Blocks in a row that the image names: the first, and how many they are.
+    /// Consecutive blocks that the image names: the first one, and their number.
     BlockRun(u64, u64),
-    /// How many maps were read.
+    /// The number of maps that were read.
     Maps(u64),
-    /// How many units a compressed image has, how many bytes the pages have that they take, and how many those that they
-    /// expand to.
+    /// The number of units of a compressed image, the number of bytes of the pages that they take, and of those that
+    /// they expand to.
     Units(u64),
     CompressedBytes(u64),
     ExpandedBytes(u64),
-    /// Page frames in a row: the first, and how many they are.
+    /// Consecutive page frames: the first one, and their number.
     FrameRun(u64, u64),
 }
 
 impl Default for Fact {
-    /// What a list of facts has in its empty places.
+    /// Returns the value in the unused places of a list of facts.
     fn default() -> Fact {
         Fact::HeaderMissing
     }

@@ -4,10 +4,10 @@ use crate::fact::Fact;
 use arrayvec::ArrayVec;
 use std::marker::Model;
 
-/// At most so many facts: 630 bad pages, and 16 more of a header block.
+/// The most facts: 630 bad pages, and 16 more of a header block.
 const MOST_FACTS: usize = 646;
 
-/// Some facts. A contract sees the list of them.
+/// Some facts. A contract sees them as a list.
 #[derive(Drop)]
 pub struct Facts {
     facts: ArrayVec<Fact, MOST_FACTS>,

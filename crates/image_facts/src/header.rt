@@ -13,15 +13,15 @@ use image_check::mark_in;
 use page_core::Page;
 use sig_header::{Area, AreaKind, Mark, take_back};
 
-/// Where the fields lie that `AreaKind` doesn't tell, in bytes (`union swap_header`, include/linux/swap.h;
-/// `struct swsusp_header`, kernel/power/swap.c).
+/// The offsets in bytes of the fields that `AreaKind` doesn't have (`union swap_header`, include/linux/swap.h; `struct
+/// swsusp_header`, kernel/power/swap.c).
 const UUID: usize = 1036;
 
 const LABEL: usize = 1052;
 
 const CRC32: usize = 4060;
 
-/// What the header block of an area says, in a file or a device of so many blocks.
+/// Returns what the header block of an area says, in a file or a device of `blocks` blocks.
 pub fn header_facts(blocks: u32, page: &Page) -> Facts
     ensures { result ≡ header_facts blocks page.now }
 {
@@ -31,7 +31,7 @@ pub fn header_facts(blocks: u32, page: &Page) -> Facts
     facts
 }
 
-/// Adds what a header block says with a mark, or without one.
+/// Adds what a header block with or without a mark says.
 fn add_image(facts: &mut Facts, page: &Page, mark: Option<Mark>)
     requires { length facts.old ≤ 1 }
     ensures { facts.new ≡ facts.old ++ facts_by_mark page.now mark }
@@ -103,7 +103,7 @@ fn add_label(facts: &mut Facts, label: [u8; 16])
     }
 }
 
-/// How many bytes a text has before its first zero byte.
+/// Returns how many bytes a text has before its first zero byte.
 fn text_len(text: &[u8]) -> usize
     ensures { result ≡ length (text_of_name text.now) }
 {

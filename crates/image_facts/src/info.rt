@@ -12,15 +12,15 @@ use fact_lines::{Name, is_printable};
 use image_header::{Ident, decode};
 use page_core::Page;
 
-/// How many bytes a version text has at most, with its end (`__NEW_UTS_LEN` + 1).
+/// The most bytes of a version text, with its zero byte (`__NEW_UTS_LEN` + 1).
 const TEXT_SIZE: usize = 65;
 
-/// RESTORE_MAGIC (arch/x86/power/hibernate.c), and its word.
+/// RESTORE_MAGIC (arch/x86/power/hibernate.c), and the index of its word.
 const MAGIC: u64 = 0x2345_6789_abcd_ef02;
 
 const MAGIC_WORD: usize = 3;
 
-/// What an info page says.
+/// Returns what an info page says.
 pub fn info_facts(page: &Page) -> Facts
     ensures { result ≡ info_facts page.now }
 {
@@ -35,7 +35,7 @@ pub fn info_facts(page: &Page) -> Facts
     facts
 }
 
-/// Adds what the header says that an info page begins with.
+/// Adds what the header at the beginning of an info page says.
 fn add_start(facts: &mut Facts, page: &Page, ident: &Ident)
     requires { length facts.old ≡ 0 }
     ensures added { facts.new ≡ facts.old ++ start_facts page.now ident.now }
@@ -117,7 +117,7 @@ fn text_of(page: &Page) -> [u8; TEXT_SIZE]
     text
 }
 
-/// Whether these are a text with an end.
+/// Returns whether these bytes are a version text that has an end.
 fn is_version_text(name: &[u8]) -> bool
     ensures { result ≡ is_version_text (text_of_name name.now) }
 {
@@ -125,7 +125,7 @@ fn is_version_text(name: &[u8]) -> bool
     0 < len && len < TEXT_SIZE && is_printable(&name[..len])
 }
 
-/// How many bytes a name has before its first zero byte.
+/// Returns how many bytes a name has before its first zero byte.
 fn text_len(name: &[u8]) -> usize
     ensures { result ≡ length (text_of_name name.now) }
 {

@@ -4,9 +4,9 @@ ghost use Rattle.image_facts.specs.Reads.{block_of_part};
 /// A block of an image that was read.
 #[derive(Clone, Copy, Debug, PartialEq, Eq)]
 pub enum Part {
-    /// A map, of so many maps so far.
+    /// A map; `maps` counts the maps up to it.
     Map { maps: u32, block: u64 },
-    /// The info page, which is the image's first one.
+    /// The info page, which is the first page of the image.
     Info { block: u64 },
     /// Another page of the image.
     Page { block: u64 },

@@ -9,16 +9,16 @@ use page_core::{NoMemory, Page};
 use sector_disk::Disk;
 use std::alloc::Global;
 
-/// The word of an info page that tells how many pages the image has (`pages`, `struct swsusp_info`,
+/// The index of the info page's word that says how many pages the image has (`pages`, `struct swsusp_info`,
 /// kernel/power/power.h).
 const PAGES_WORD: usize = 53;
 
 /// Reads the blocks of an image, up to its last page: to the first block that can't be one of the image or can't be
-/// read, or to an entry behind the last page.
+/// read, or to an entry after the last page.
 #[derive(Drop)]
 pub struct Reading {
     walker: Walker,
-    /// How many pages are still wanted, once the info page was read.
+    /// How many more pages are wanted, once the info page was read.
     wanted: Option<u64>,
 }
 
@@ -28,7 +28,7 @@ impl Reading {
     ghost use Rattle.image_facts.specs.Reads.{Reads, ReadsOn};
     ghost use Rattle.image_facts.specs.Told.{IsEnd};
 
-    /// A reading before the first map, which the header names.
+    /// Returns a reading before the first map, which the header names.
     pub fn begin(alloc: Global, limits: &Limits, first: u64) -> Result<Reading, NoMemory>
         ensures limits { IfOk result (λ r. r.walker.limits ≡ limits.now) }
         ensures start { IfOk result (λ r. Reads first r []) }
@@ -40,7 +40,7 @@ impl Reading {
         })
     }
 
-    /// Goes on to the next block, and reads it into `page`.
+    /// Continues with the next block, and reads it into `page`.
     pub fn next<D: Disk>(&mut self, disk: &mut D, page: &mut Page) -> Option<Part>
         requires { D.block_count disk.old ≡ self.old.walker.limits.blocks }
         ensures next { IfSome result (λ part. (first : ℕ) (h : List Name) → Reads first self.old h →
@@ -59,7 +59,7 @@ impl Reading {
     }
 }
 
-/// The part of the image that a visit shows, if it shows one.
+/// Returns the part of the image that a visit shows, if it shows one.
 fn part_of(wanted: &mut Option<u64>, visit: Visit, page: &Page) -> Option<Part>
     ensures part { IfSome result (λ part. (h : List Name) → IsPlaced h visit → HasWanted wanted.old h →
         TakesPart h (name_of visit page.now) part wanted.new page.now) }
@@ -83,7 +83,7 @@ fn part_of(wanted: &mut Option<u64>, visit: Visit, page: &Page) -> Option<Part>
     }
 }
 
-/// The part that a page of an entry is, if one is wanted.
+/// Returns the part that a page of an entry is, if one is wanted.
 fn page_of(wanted: &mut Option<u64>, block: u64, page: &Page) -> Option<Part>
     ensures part { IfSome result (λ part. (h : List Name) → HasWanted wanted.old h →
         TakesPart h (page_at block (Ok page.now)) part wanted.new page.now) }

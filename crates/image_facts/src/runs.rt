@@ -1,8 +1,7 @@
 ghost use Rattle.std.specs.Prelude.{◌≡◌, ◌+◌, ◌<◌, ◌≤◌, ◌^◌, List, ℕ, [], ◌∷◌, ◌++◌};
 ghost use Rattle.image_facts.specs.Runs.{count_of, end_of, list_of, IsUpTo};
 
-/// Puts numbers that come one after another into runs, each a first number and how many there are. Of all runs it keeps
-/// the last one.
+/// Collects numbers that come one after another into runs, each a first number and a count. Only the last run is kept.
 #[derive(Clone, Copy, Debug, PartialEq, Eq)]
 pub struct Runs {
     last: Option<(u64, u64)>,
@@ -37,7 +36,7 @@ impl Runs {
         }
     }
 
-    /// The last run, if there was a number.
+    /// Returns the last run, if there was a number.
     pub fn last(&self) -> Option<(u64, u64)>
         ensures { result ≡ self.now.last }
     {

@@ -24,14 +24,13 @@ frame_at given i = slice_index_or given i (frame_of 0 [])
 abbrev pub numbers_of : List SavedFrame → List ℕ
 numbers_of given = map (λ (g : SavedFrame). g.number) given
 
--- the page of word i of these number pages, by the data pages
+-- the page of word i of these number pages, given the data pages
 abbrev pub data_page : Format → (listed saved : List (List ℕ)) → ℕ → List ℕ
 data_page format listed saved i =
     if has_page format (word_at listed i) then page_at saved (listed_data format listed i) else zero_page
 
--- Nothing is wrong with the image so far, whose header lies in a block, and these are its first saved page frames:
--- their numbers were given, and their pages are those of the data pages that were read, or zeros. So many data pages
--- are left.
+-- Nothing is wrong so far with the image that has this header block, and these are its first saved page frames: their
+-- numbers were given, and their pages are the data pages that were read, or zeros. `f.left` data pages are left.
 pub record HasGiven (content : Option Content) (blocks header : ℕ) (f : Frames) (given : List SavedFrame) : Type 0 where
   pub numbered : HasNumbered content blocks header f.numbers (numbers_of given)
   pub passed : List (List ℕ)
@@ -43,7 +42,7 @@ pub record HasGiven (content : Option Content) (blocks header : ℕ) (f : Frames
   pub frames : (i : ℕ) → i < f.numbers.given →
       (frame_at given i).page ≡ data_page f.numbers.pages.format numbered.listed saved i
 
--- No number was given yet, and all number pages were read by other pages.
+-- No number was given yet, and all number pages were read by the other reader.
 pub record HasPassed (content : Option Content) (blocks header : ℕ) (n : Numbers) (p : Pages) : Type 0 where
   pub numbered : HasNumbered content blocks header n []
   pub passed : List (List ℕ)

@@ -9,7 +9,7 @@ use Rattle.image_saved.specs.Ahead.{listed_data}
 use Rattle.image_saved.specs.Found.{page_at}
 use Rattle.image_frames.specs.declared.numbers.Numbers.{Numbers}
 
--- Nothing is wrong with the image so far, whose header lies in a block, and these are its first numbers: those of the
+-- Nothing is wrong so far with the image that has this header block, and these are its first numbers: those of the
 -- number pages that were read.
 pub record HasNumbered (content : Option Content) (blocks header : ℕ) (n : Numbers) (given : List ℕ) : Type 0 where
   pub listed : List (List ℕ)
@@ -23,7 +23,8 @@ pub record HasNumbered (content : Option Content) (blocks header : ℕ) (n : Num
   pub size : length given ≡ n.given
   pub numbers : (i : ℕ) → i < n.given → slice_index_or given i 0 ≡ frame_of n.pages.format (word_at listed i)
 
--- More of them have a data page than the image has, which only a disk brings about that doesn't keep what it holds.
+-- More of these numbers have a data page than the image has, which can only happen on a disk that doesn't keep what it
+-- holds.
 abbrev pub HasTooMany : (content : Option Content) → (blocks header : ℕ) → (n : Numbers) → (given : List ℕ) →
     HasNumbered content blocks header n given → Type 0
 HasTooMany content blocks header n given h =

@@ -1,4 +1,4 @@
--- What there is to open.
+-- The results of opening an image.
 use Rattle.std.specs.Prelude.{◌≡◌, ℕ, ◌⊎◌, List, [], Option}
 use Rattle.definitions.specs.Disk.{Content}
 use Rattle.image_check.specs.Told.{Told}
@@ -11,7 +11,7 @@ use Rattle.image_frames.specs.declared.frames.Opened.TheVariants as opened
 use Rattle.image_frames.specs.declared.numbers.OpenedNumbers.{OpenedNumbers}
 use Rattle.image_frames.specs.declared.numbers.OpenedNumbers.TheVariants.{NoImage, Refused, Open}
 
--- the findings of the header block, or of the first block that is named and has some, are told
+-- the findings of the header block, or of the first named block that has some, are reported
 abbrev pub IsBad : Option Content → (blocks header before now : ℕ) → (told then : Told) → Type 0
 IsBad content blocks header before now told then =
     IsBadHeader content blocks header before now told then

@@ -16,7 +16,7 @@ pub record SavedFrame : Type 0 where
 abbrev pub saved_at : Format → (ℕ → List ℕ) → ℕ → SavedFrame
 saved_at format at i = record { number = number_in format at i; page = page_in format at i }
 
--- the first of them
+-- the first n of them
 abbrev pub first_saved : Format → (ℕ → List ℕ) → ℕ → List SavedFrame
 first_saved format at n = map (saved_at format at) (range_with_len 0 n)
 
@@ -24,7 +24,7 @@ first_saved format at n = map (saved_at format at) (range_with_len 0 n)
 abbrev pub saved_frames : Format → (ℕ → List ℕ) → List SavedFrame
 saved_frames format at = first_saved format at (count_in at)
 
--- these are the first ones that the chain names, where the disk tells what it holds
+-- these are the first ones that the chain names, if the disk tells what it holds
 abbrev pub AreFirstSaved : Option Content → ℕ → List SavedFrame → Type 0
 AreFirstSaved content header given =
     IfSome content (λ held.

@@ -7,14 +7,14 @@ use Rattle.image_pages.specs.Chain.{chain_page}
 use Rattle.image_saved.specs.Formats.{chain_format}
 use Rattle.image_saved.specs.Saved.{count_in, number_in}
 
--- the first of them, and all of them, in ascending order
+-- the first n numbers, and all of them, in ascending order
 abbrev pub first_numbers : Format → (ℕ → List ℕ) → ℕ → List ℕ
 first_numbers format at n = map (number_in format at) (range_with_len 0 n)
 
 abbrev pub saved_numbers : Format → (ℕ → List ℕ) → List ℕ
 saved_numbers format at = first_numbers format at (count_in at)
 
--- these are the first ones that the chain names, where the disk tells what it holds
+-- these are the first ones that the chain names, if the disk tells what it holds
 abbrev pub AreFirstNumbers : Option Content → ℕ → List ℕ → Type 0
 AreFirstNumbers content header given =
     IfSome content (λ held.

@@ -1,4 +1,4 @@
--- What comes next of the saved page frames of an image.
+-- The next result of the saved page frames of an image.
 use Rattle.std.specs.Prelude.{◌≡◌, ℕ, ◌<◌, ◌^◌, List, [], ◌∷◌, ◌++◌, length, drop, All, Option}
 use Rattle.page_core.specs.declared.format.Format.{Format}
 use Rattle.definitions.specs.Disk.{Content}
@@ -15,7 +15,7 @@ use Rattle.image_frames.specs.declared.frames.Frames.{Frames}
 use Rattle.image_frames.specs.declared.frames.Next.{Next}
 use Rattle.image_frames.specs.declared.frames.Next.TheVariants.{Frame, End, Refused}
 
--- The next saved page frame is given: its number is above those before, and its address has at most 64 bits.
+-- The next saved page frame is given: its number is above those before it, and its address has at most 64 bits.
 pub record IsNextFrame (content : Option Content) (blocks header : ℕ) (given : List SavedFrame) (q : Frames)
     (f : SavedFrame) : Type 0 where
   pub stands : HasGiven content blocks header q (given ++ f ∷ [])
@@ -23,8 +23,8 @@ pub record IsNextFrame (content : Option Content) (blocks header : ℕ) (given :
   pub small : f.number < 2 ^ 52
   pub first : AreFirstSaved content header (given ++ f ∷ [])
 
--- All saved page frames were given, and nothing is wrong with a whole reading of the image, in which these pages
--- were read. The numbers are those of number pages that were read once more.
+-- All saved page frames were given, and nothing is wrong with a whole reading of the image, in which these pages were
+-- read. The numbers are those of number pages that were read a second time.
 pub record AreAllGiven (content : Option Content) (blocks header before now : ℕ) (info : List ℕ)
     (given : List SavedFrame) : Type 0 where
   pub pages : List (List ℕ)

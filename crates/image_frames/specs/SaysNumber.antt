@@ -1,4 +1,4 @@
--- What comes next of the numbers of an image.
+-- The next result of the numbers of an image.
 use Rattle.std.specs.Prelude.{◌≡◌, ℕ, ◌<◌, ◌^◌, List, [], ◌∷◌, ◌++◌, length, All, Option}
 use Rattle.definitions.specs.Disk.{Content}
 use Rattle.image_check.specs.Info.{counts_in}
@@ -10,7 +10,7 @@ use Rattle.image_frames.specs.declared.numbers.NextNumber.{NextNumber}
 use Rattle.image_frames.specs.declared.numbers.NextNumber.TheVariants.{Frame, End, Refused}
 use Rattle.image_frames.specs.declared.numbers.Numbers.{Numbers}
 
--- The next number is given: it is above those before, and the address of its page frame has at most 64 bits.
+-- The next number is given: it is above those before it, and the address of its page frame has at most 64 bits.
 pub record IsNextNumber (content : Option Content) (blocks header : ℕ) (given : List ℕ) (q : Numbers)
     (number : ℕ) : Type 0 where
   pub stands : HasNumbered content blocks header q (given ++ number ∷ [])

@@ -1,4 +1,4 @@
--- What comes next of the numbers of an image, with whether its page is a data page.
+-- The next result of the numbers of an image, with whether the number has a data page.
 use Rattle.std.specs.Prelude.{◌≡◌, ℕ, ◌<◌, Bool, List, Option}
 use Rattle.definitions.specs.Disk.{Content}
 use Rattle.definitions.specs.NumberPages.{word_at}
@@ -11,7 +11,7 @@ use Rattle.image_frames.specs.declared.numbers.NextWord.{NextWord}
 use Rattle.image_frames.specs.declared.numbers.NextWord.TheVariants.{Frame, End, Refused}
 use Rattle.image_frames.specs.declared.numbers.Numbers.{Numbers}
 
--- The next number is given, of the word after those before.
+-- The next number is given, from the word after those before.
 pub record IsNextWord (content : Option Content) (blocks header : ℕ) (given : List ℕ) (n : Numbers)
     (h : HasNumbered content blocks header n given) (q : Numbers) (number : ℕ) (has_data : Bool) : Type 0 where
   pub next : IsNextNumber content blocks header given q number

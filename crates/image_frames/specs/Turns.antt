@@ -1,4 +1,4 @@
--- Number pages that are read as their numbers are given, and the end of the data pages.
+-- The number pages that are read as their numbers are given, and the end of the data pages.
 use Rattle.std.specs.Prelude.{◌≡◌, ℕ, ◌+◌, ◌/◌, ◌%◌, ◌<◌, ◌≤◌, Bool, true, false, List, ◌∷◌, length, Option}
 use Rattle.definitions.specs.Disk.{Content}
 use Rattle.definitions.specs.NumberPages.{meta_of}
@@ -12,7 +12,8 @@ use Rattle.image_saved.specs.Found.{page_at}
 use Rattle.image_frames.specs.declared.frames.Next.{Next}
 use Rattle.image_frames.specs.declared.frames.Next.TheVariants.{Frame, End, Refused}
 
--- After so many numbers these number pages were read, and the newest holds the number given last. There are more.
+-- After `given` numbers these number pages were read, and the newest holds the number given last. There are more
+-- numbers.
 pub record IsAtNumber (content : Option Content) (blocks header : ℕ) (p : Pages) (info : List ℕ)
     (pages : List (List ℕ)) (given : ℕ) (page : List ℕ) : Type 0 where
   pub stands : Stands content blocks header p (info ∷ pages)
@@ -37,7 +38,7 @@ Turns content blocks header before now told then info pages given q page true =
 Turns content blocks header before now told then info pages given q page false =
     IsRefused content blocks header before now told then (info ∷ pages)
 
--- all pages that the info page speaks of were read
+-- all pages that the info page counts were read
 pub record IsFull (content : Option Content) (blocks header : ℕ) (p : Pages) (info : List ℕ)
     (rest : List (List ℕ)) : Type 0 where
   pub stands : Stands content blocks header p (info ∷ rest)

@@ -10,36 +10,36 @@ use page_core::{NoMemory, Page};
 use sector_disk::Disk;
 use std::alloc::Global;
 
-/// The saved page frames of an image, in ascending order, up to the first block that is named and
-/// has findings. The numbers and the pages of an image lie far from one another, so the image is read at two places. It
-/// takes memory of two bits for each block of the disk.
+/// The saved page frames of an image, in ascending order, up to the first named block that has findings. The numbers
+/// and the pages of an image lie far apart, so the image is read at two places. It takes memory of two bits for each
+/// block of the disk.
 #[derive(Drop)]
 pub struct Frames {
     numbers: Numbers,
-    /// After the data page that was read last.
+    /// The reader after the data page that was read last.
     pages: Pages,
     /// How many data pages are left.
     left: u64,
 }
 
-/// What there was to open.
+/// The result of opening an image.
 #[derive(Drop)]
 pub enum Opened {
     /// The header block, if the disk has it, isn't marked.
     NoImage,
-    /// The findings of the header block, of the info page or of the first number page that has some were told.
+    /// The header block, the info page or a number page has findings; those of the first one were reported.
     Refused,
     Open(Frames),
 }
 
-/// What comes next.
+/// The next result.
 #[derive(Clone, Copy, Debug, PartialEq, Eq)]
 pub enum Next {
     /// The page frame of this number was saved.
     Frame(u64),
-    /// All were given, and the image has no finding.
+    /// All page frames were given, and the image has no finding.
     End,
-    /// The findings of the first block that is named and has some were told.
+    /// The first named block with findings was reached; they were reported.
     Refused,
 }
 
@@ -53,7 +53,7 @@ impl Frames {
     ghost use Rattle.image_frames.specs.SavedFrames.{SavedFrame};
     ghost use Rattle.image_frames.specs.Says.{Says};
 
-    /// Opens the image of the area whose header lies in a block, and reads it up to its last number page.
+    /// Opens the image of the area whose header lies in block `header`, and reads it up to its last number page.
     pub fn open<D: Disk, R: Report>(
         alloc: Global,
         disk: &mut D,
@@ -82,7 +82,7 @@ impl Frames {
         Ok(Opened::Open(Frames::of(numbers, pages)))
     }
 
-    /// Begins with numbers of which none was given, and the pages after all number pages.
+    /// Makes a reader from numbers of which none was given, and the pages after all number pages.
     pub fn of(numbers: Numbers, pages: Pages) -> Frames
         requires { (content : Option Content) × ((blocks : ℕ) × ((header : ℕ) ×
             HasPassed content blocks header numbers pages)) }
@@ -101,9 +101,9 @@ impl Frames {
         }
     }
 
-    /// Reads the next saved page frame: where its number says that its page is zeros, no data page is read. It isn't
-    /// called again after an end or a refusal. The page frames that were given are the first ones that the chain of
-    /// the disk names; an end says that they are all.
+    /// Reads the next saved page frame; if its number says that its page is zeros, no data page is read. After an end
+    /// or a refusal it isn't called again. The page frames that were given are the first ones that the chain of the
+    /// disk names; an end says that they are all.
     pub fn next<D: Disk, R: Report>(
         &mut self,
         disk: &mut D,
@@ -142,7 +142,7 @@ impl Frames {
         Next::Frame(number)
     }
 
-    /// What the info page says: whose image it is, and how many page frames were saved.
+    /// Returns what the info page says: whose image it is, and how many page frames were saved.
     pub fn info(&self) -> Info
         ensures said { result ≡ info_of self.now.numbers.info }
         ensures chain { (content : Option Content) (blocks header : ℕ) (given : List SavedFrame) →
@@ -152,7 +152,7 @@ impl Frames {
     }
 }
 
-/// Reads the image to its end, of which all pages were read.
+/// Reads an image to its end after all its pages were read.
 fn end<D: Disk, R: Report>(pages: &mut Pages, disk: &mut D, report: &mut R, page: &mut Page) -> Next
     requires { (header : ℕ) × ((info : List ℕ) × ((rest : List (List ℕ)) ×
         IsFull (D.content disk.old) (D.block_count disk.old) header pages.old info rest)) }

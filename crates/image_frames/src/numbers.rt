@@ -14,42 +14,42 @@ use std::alloc::Global;
 /// How many numbers a page of page frame numbers has.
 pub(crate) const NUMBERS: u64 = 512;
 
-/// The numbers of the saved page frames of an image, in ascending order. Only its number pages are
-/// read, up to the first block that is named and has findings. It takes memory of a bit for each block of the disk.
+/// The numbers of the saved page frames of an image, in ascending order. Only its number pages are read, up to the
+/// first named block that has findings. It takes memory of one bit for each block of the disk.
 #[derive(Drop)]
 pub struct Numbers {
     info: Page,
     /// How many page frames were saved.
     count: u64,
     given: u64,
-    /// After the number page that holds the number given last.
+    /// The reader after the number page that holds the number given last.
     pages: Pages,
     /// That number page.
     listed: Page,
 }
 
-/// What there was to open.
+/// The result of opening an image.
 #[derive(Drop)]
 pub enum OpenedNumbers {
     /// The header block, if the disk has it, isn't marked.
     NoImage,
-    /// The findings of the header block or of the info page were told.
+    /// The header block or the info page has findings, which were reported.
     Refused,
     Open(Numbers),
 }
 
-/// What comes next.
+/// The next result.
 #[derive(Clone, Copy, Debug, PartialEq, Eq)]
 pub enum NextNumber {
     /// The page frame of this number was saved.
     Frame(u64),
-    /// All were given.
+    /// All numbers were given.
     End,
-    /// The findings of the first block that is named and has some were told.
+    /// The first named block with findings was reached; they were reported.
     Refused,
 }
 
-/// What comes next, with whether its page is a data page.
+/// The next result, with whether the number has a data page.
 #[derive(Clone, Copy)]
 pub(crate) enum NextWord {
     Frame { number: u64, has_data: bool },
@@ -72,7 +72,7 @@ impl Numbers {
     ghost use Rattle.image_frames.specs.SaysWord.{SaysWord};
     ghost use Rattle.image_pages.specs.Ends.{IsRefused};
 
-    /// Opens the image of the area whose header lies in a block, and reads its info page.
+    /// Opens the image of the area whose header lies in block `header`, and reads its info page.
     pub fn open<D: Disk, R: Report>(
         alloc: Global,
         disk: &mut D,
@@ -94,7 +94,7 @@ impl Numbers {
         }
     }
 
-    /// Begins after the info page of an image, which says this.
+    /// Makes a reader that begins after the info page of an image, which says this.
     pub fn of(info: Page, counts: Counts, pages: Pages) -> Numbers
         ensures numbered { (content : Option Content) (blocks header : ℕ) →
             HasInfo content blocks header pages counts info → HasNumbered content blocks header result [] }
@@ -109,8 +109,8 @@ impl Numbers {
         }
     }
 
-    /// Reads the next number. It isn't called again after an end or a refusal. The numbers that were given are those
-    /// of the first page frames that the chain of the disk names; an end says that they are all.
+    /// Reads the next number. After an end or a refusal it isn't called again. The numbers that were given are those of
+    /// the first page frames that the chain of the disk names; an end says that they are all.
     pub fn next<D: Disk, R: Report>(&mut self, disk: &mut D, report: &mut R) -> NextNumber
         requires { (header : ℕ) × ((given : List ℕ) ×
             HasNumbered (D.content disk.old) (D.block_count disk.old) header self.old given) }
@@ -131,7 +131,7 @@ impl Numbers {
         }
     }
 
-    /// The same, with whether its page is a data page.
+    /// Reads the next number, and whether it has a data page.
     pub(crate) fn next_word<D: Disk, R: Report>(&mut self, disk: &mut D, report: &mut R) -> NextWord
         requires { (header : ℕ) × ((given : List ℕ) ×
             HasNumbered (D.content disk.old) (D.block_count disk.old) header self.old given) }
@@ -160,7 +160,7 @@ impl Numbers {
         }
     }
 
-    /// Reads on to the number page in which something is wrong: more numbers have a data page than the image has.
+    /// Reads up to the number page that is wrong: more numbers have a data page than the image has.
     pub(crate) fn refuse<D: Disk, R: Report>(&mut self, disk: &mut D, report: &mut R)
         requires { (header : ℕ) × ((given : List ℕ) ×
             ((h : HasNumbered (D.content disk.old) (D.block_count disk.old) header self.old given) ×
@@ -182,7 +182,7 @@ impl Numbers {
         }
     }
 
-    /// What the info page says: whose image it is, and how many page frames were saved.
+    /// Returns what the info page says: whose image it is, and how many page frames were saved.
     pub fn info(&self) -> Info
         ensures said { result ≡ info_of self.now.info }
         ensures chain { (content : Option Content) (blocks header : ℕ) (given : List ℕ) →
@@ -191,7 +191,7 @@ impl Numbers {
         decode(&self.info)
     }
 
-    /// How many page frames were saved, by the info page.
+    /// Returns how many page frames were saved, by the info page.
     pub fn count(&self) -> u64
         ensures count { (content : Option Content) (blocks header : ℕ) (given : List ℕ) →
             HasNumbered content blocks header self.now given → result ≡ (counts_in self.now.info).image_pages }
@@ -199,7 +199,7 @@ impl Numbers {
         self.count
     }
 
-    /// The pages of the image after the last number page that was read, to be read by themselves.
+    /// Returns a reader of the pages after the last number page that was read, which continues independently.
     pub(crate) fn pages_ahead(&self) -> Result<Pages, NoMemory>
         ensures stands { IfOk result (λ p. (content : Option Content) (blocks header : ℕ) (given : List (List ℕ)) →
             Stands content blocks header self.now.pages given → Stands content blocks header p given) }
@@ -208,7 +208,7 @@ impl Numbers {
     }
 }
 
-/// Begins with an image of which nothing was read.
+/// Begins to read an image of which nothing was read yet.
 fn begin<D: Disk, R: Report>(mut pages: Pages, disk: &mut D, report: &mut R) -> OpenedNumbers
     requires { (header : ℕ) × Stands (D.content disk.old) (D.block_count disk.old) header pages [] }
     ensures opened { (header : ℕ) → Stands (D.content disk.old) (D.block_count disk.old) header pages [] →
@@ -229,8 +229,8 @@ fn begin<D: Disk, R: Report>(mut pages: Pages, disk: &mut D, report: &mut R) -> 
     OpenedNumbers::Open(Numbers::of(info, counts, pages))
 }
 
-/// Reads on to the number page of the next number, where that is another than the last one's, and answers whether it
-/// was read.
+/// Reads up to the number page of the next number, if that isn't the page of the last one, and returns whether it was
+/// read.
 fn turn<D: Disk, R: Report>(
     numbers: &mut Pages,
     disk: &mut D,

@@ -13,12 +13,12 @@ pub use definitions::{Field, Ident, Info};
 use page_core::{Format, Page};
 use thiserror::Error;
 
-/// How many bytes a name has, and how many of them there are (`__NEW_UTS_LEN` + 1).
+/// The number of bytes of a name, and that of all names (`__NEW_UTS_LEN` + 1).
 const NAME_SIZE: usize = 65;
 
 const NAMES_SIZE: usize = 6 * NAME_SIZE;
 
-/// Where the fields after the names lie, in bytes (`struct swsusp_info`, kernel/power/power.h, 64-bit).
+/// The offsets in bytes of the fields after the names (`struct swsusp_info`, kernel/power/power.h, 64-bit).
 const VERSION_CODE: usize = 392;
 
 const NUM_PHYSPAGES: usize = 400;
@@ -29,7 +29,7 @@ const PAGES: usize = 424;
 
 const SIZE: usize = 432;
 
-// The names' places in the info page.
+// The indices of the names in the info page.
 const SYSNAME: usize = 0;
 
 const RELEASE: usize = 2;
@@ -38,7 +38,7 @@ const VERSION: usize = 3;
 
 const MACHINE: usize = 4;
 
-/// Numbers of pages that don't fit the machine or one another.
+/// Numbers of pages that don't fit the machine or each other.
 #[derive(Clone, Copy, Debug, PartialEq, Eq, Error)]
 #[error("bad counts {image_pages} {pages}")]
 pub struct BadCounts {
@@ -46,7 +46,7 @@ pub struct BadCounts {
     pub pages: u64,
 }
 
-/// A page that begins with the names.
+/// Returns a page that begins with the names.
 fn page_of_names(names: &[[u8; NAME_SIZE]]) -> Page
     requires { length names.now ≡ 6 }
     ensures whole { All (λ name. length name ≡ 65) names.now }
@@ -58,13 +58,13 @@ fn page_of_names(names: &[[u8; NAME_SIZE]]) -> Page
     Page::from_bytes(&bytes)
 }
 
-/// The info page of these fields.
+/// Returns the info page of these fields.
 pub fn encode(info: &Info) -> Page
     requires { info.now.pages < 2 ^ 52 }
     ensures bytes { result ≡ info_page info.now }
     ensures page { IsPage result }
 
-    // What it says is what was put into it.
+    // Decoding the page gives these fields again.
     ensures fits { IsInfo info.now }
     ensures again { info_of result ≡ info.now }
 {
@@ -77,7 +77,7 @@ pub fn encode(info: &Info) -> Page
     page
 }
 
-/// What an info page says. Each page is one.
+/// Returns what an info page says. Each page can be decoded.
 #[tactic(auto, unfolding(definitions::specs::InfoPage::info_of))]
 pub fn decode(page: &Page) -> Info
     ensures { result ≡ info_of page.now }
@@ -108,7 +108,7 @@ fn text_len(name: &[u8]) -> usize
     name.iter().take_while(|b| **b != 0).count()
 }
 
-/// A name up to its first zero byte.
+/// Returns a name up to its first zero byte.
 fn text(name: &[u8; NAME_SIZE]) -> &[u8]
     ensures { result.now ≡ text_of_name name.now }
 {
@@ -116,7 +116,7 @@ fn text(name: &[u8; NAME_SIZE]) -> &[u8]
     &name[..end]
 }
 
-/// Whether a name is the same in both.
+/// Returns whether a name is the same in both.
 fn is_same(a: &Ident, b: &Ident, name: usize) -> bool
     requires { name < 6 }
     ensures { result ≡ same_name name a.now b.now }
@@ -124,7 +124,7 @@ fn is_same(a: &Ident, b: &Ident, name: usize) -> bool
     text(&a.names[name]) == text(&b.names[name])
 }
 
-/// The first field in which an image's identity isn't the machine's.
+/// Returns the first field in which an image's identity isn't the machine's.
 #[tactic(auto, unfolding(definitions::specs::InfoPage::mismatch))]
 fn first_difference(image: &Ident, own: &Ident) -> Option<Field>
     ensures { result ≡ mismatch image.now own.now }
@@ -144,7 +144,7 @@ fn first_difference(image: &Ident, own: &Ident) -> Option<Field>
     }
 }
 
-/// Whether an image is of this machine (`check_image_kernel`): the first field that differs is named.
+/// Checks that an image is of this machine (`check_image_kernel`); the error is the first field that differs.
 pub fn check(info: &Info, ident: &Ident) -> Result<(), Field>
     ensures same { IsOk result ↔ (mismatch info.now.ident ident.now ≡ None) }
     ensures differs { (field : Field) → (result ≡ Err field) ↔ (mismatch info.now.ident ident.now ≡ Some field) }
@@ -155,7 +155,7 @@ pub fn check(info: &Info, ident: &Ident) -> Result<(), Field>
     }
 }
 
-/// Whether the counts of an image fit the machine's number of valid page frames, and one another.
+/// Checks that the counts of an image fit the machine's number of valid page frames, and each other.
 pub fn counts(info: &Info, valid: u32, format: Format) -> Result<(), BadCounts>
     ensures bad { IsErr result ↔ IsTrue (are_bad_counts format valid info.now.image_pages info.now.pages) }
     ensures told { IfErr result (λ e. e ≡ record { image_pages = info.now.image_pages; pages = info.now.pages }) }

@@ -9,7 +9,7 @@ use Rattle.image_check.specs.Told.{Told}
 use Rattle.image_check.specs.declared.finding.Finding.{Finding}
 use Rattle.image_json.specs.Values.{characters}
 
--- what is told of findings that are kept, of which there is none yet
+-- the state of findings of which none was kept yet
 abbrev pub untold : Told
 untold = record { text = Some []; count = 0; failed = false; faults = 0 }
 
@@ -33,7 +33,7 @@ check_object image found =
 abbrev pub check_line : Bool → List Finding → List ℕ
 check_line image found = compact_text (check_object image found) ++ 10 ∷ []
 
--- of an image with these findings, or of an area without an image
+-- the line of an image with these findings, or of an area without an image
 abbrev pub found_line : Option (List Finding) → List ℕ
 found_line None = check_line false []
 found_line (Some found) = check_line true found

@@ -1,5 +1,5 @@
--- The object of an area's facts: a member for each fact, in order, or an array for those in a row that are items of the
--- same one.
+-- The object of an area's facts: a member for each fact, in order, or an array for consecutive facts that are items of
+-- the same one.
 use Rattle.std.specs.Prelude.{ℕ, List, [], ◌∷◌, ◌++◌, is_some, if◌then◌else◌, Option}
 use Rattle.serde_json.specs.Data.{Data, array, null, object, Members, member, no_members}
 use Rattle.serde_json.specs.View.{items_of}
@@ -8,7 +8,7 @@ use Rattle.image_facts.specs.declared.fact.Fact.{Fact}
 use Rattle.image_json.specs.Values.{array_of, is_same, key_of, value_of}
 use Rattle.image_json.specs.declared.array.Array.{Array}
 
--- facts under one key: of one array, or a fact alone
+-- facts under one key: the items of one array, or a single fact
 pub record Group : Type 0 where
   pub key : List ℕ
   pub array : Option Array
@@ -29,7 +29,7 @@ abbrev pub grouped : List Fact → List Group
 grouped [] = []
 grouped (f ∷ fs) = with_fact f (grouped fs)
 
--- the value of a fact alone
+-- the value of a single fact
 abbrev pub first_of : List Data → Data
 first_of [] = null
 first_of (d ∷ ds) = d

@@ -6,12 +6,12 @@ use Rattle.image_facts.specs.declared.fact.Fact.{Fact}
 use Rattle.image_show.specs.Forms.{Style}
 use Rattle.image_json.specs.Values.{array_of, is_same, key_of, value_of}
 
--- what stands between a fact, if there is one, and the key of the next
+-- what comes between a fact, if there is one, and the key of the next
 abbrev pub end_of : Option Fact → List ℕ
 end_of None = codes "{"
 end_of (Some f) = if is_some (array_of f) then codes "]," else codes ","
 
--- what stands between a key and its value or its first item
+-- what comes between a key and its value or its first item
 abbrev pub start_of : Fact → List ℕ
 start_of f = if is_some (array_of f) then codes ":[" else codes ":"
 
@@ -29,6 +29,6 @@ abbrev pub closing : Option Fact → List ℕ
 closing None = codes "{}\n"
 closing (Some f) = if is_some (array_of f) then codes "]}\n" else codes "}\n"
 
--- the form of an object's members: the last fact is kept
+-- the form of the members of an object: the last fact is kept
 abbrev pub members : Style
 members = record { piece = piece; kept = λ last f. Some f }

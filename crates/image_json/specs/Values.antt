@@ -1,4 +1,4 @@
--- The key and the value of a fact as JSON, by the text of its line.
+-- The key and the value of a fact as JSON, from the text of its line.
 use Rattle.std.specs.Prelude.{ℕ, ◌+◌, ◌^◌, ◌==◌, Bool, false, List, length, drop, not, nat_le, decimal, take_while}
 use Rattle.std.specs.Prelude.{if◌then◌else◌, Option, Some, None}
 use Rattle.std.specs.Str.{encode_utf8_all}
@@ -9,22 +9,22 @@ use Rattle.image_show.specs.Texts.{fact_text}
 use Rattle.image_json.specs.declared.array.Array.{Array}
 use Rattle.image_json.specs.declared.array.Array.TheVariants.{BadPages, Flags, BlockRuns, FrameRuns}
 
--- bytes as text: each as the character of its number, so that ASCII stays as it is
+-- bytes as text: each as the character with its number, so that ASCII stays as it is
 abbrev pub characters : List ℕ → List ℕ
 characters bytes = encode_utf8_all bytes
 
--- The line of a fact is its key, and after a space its value.
+-- The line of a fact is its key, and its value after a space.
 abbrev pub key_in : List ℕ → List ℕ
 key_in text = take_while (λ b. not (b == 32)) text
 
 abbrev pub value_in : List ℕ → List ℕ
 value_in text = drop (length (key_in text) + 1) text
 
--- a number up to which a double holds each one, else its digits
+-- a number if a double holds all numbers up to it, else a string of its digits
 abbrev pub number_value : ℕ → Data
 number_value n = if nat_le n (2 ^ 53) then number (unsigned n) else string (decimal n)
 
--- blocks or page frames in a row: the first, and how many they are
+-- consecutive blocks or page frames: the first one, and their number
 abbrev pub run_value : ℕ → ℕ → Data
 run_value start count = array (item (number_value start) (item (number_value count) no_items))
 
@@ -74,7 +74,7 @@ key_of f = characters (key_in (fact_text f))
 abbrev pub value_of : Fact → Data
 value_of f = value_by f (value_in (fact_text f))
 
--- the array that a fact is an item of: there may be many of its kind
+-- the array that a fact is an item of, if there may be many of its kind
 abbrev pub array_of : Fact → Option Array
 array_of (fact.Blocks n) = None
 array_of fact.HeaderMissing = None

@@ -3,7 +3,7 @@ ghost use Rattle.image_json.specs.Values.{array_of};
 
 use image_facts::Fact;
 
-/// The arrays of an object: facts of each of these kinds may be many.
+/// The arrays of an object: there may be many facts of each of these kinds.
 #[derive(Clone, Copy, Debug, PartialEq, Eq)]
 pub enum Array {
     BadPages,
@@ -12,7 +12,7 @@ pub enum Array {
     FrameRuns,
 }
 
-/// The array that a fact is an item of.
+/// Returns the array that a fact is an item of.
 pub(crate) fn array_of(fact: &Fact) -> Option<Array>
     ensures { result ≡ array_of fact.now }
 {

@@ -16,15 +16,15 @@ use std::alloc::{AllocError, Global};
 /// What a check has found.
 #[derive(Drop)]
 pub struct Checked {
-    /// The object, in a line.
+    /// The object, on one line.
     pub line: String,
-    /// There is an image, and nothing is wrong with it.
+    /// Whether there is an image and nothing is wrong with it.
     pub whole: bool,
 }
 
-/// What is wrong with the image of the area whose header lies in a block, as one object in a line: the texts of the
-/// findings of `image_check::check`, in order, whether there is an image, and whether it is whole. It takes memory for
-/// each finding.
+/// Returns what is wrong with the image of the area whose header lies in block `header`, as one object on a line: the
+/// texts of the findings of `image_check::check`, in order, whether there is an image, and whether it is whole. It
+/// takes memory for each finding.
 pub fn check<D: Disk>(alloc: Global, disk: &mut D, header: u32) -> Result<Checked, NoMemory>
     ensures told { IfOk result (λ checked. (found : Option (List Finding)) ×
         (Finds (D.content disk.old) (D.block_count disk.old) header (D.faults disk.old) (D.faults disk.new) found
@@ -41,7 +41,7 @@ pub fn check<D: Disk>(alloc: Global, disk: &mut D, header: u32) -> Result<Checke
     }
 }
 
-/// What is wrong with an image, by the findings that were kept of it.
+/// Returns what is wrong with an image, from the findings that were kept of it.
 pub fn sum_up(alloc: Global, findings: &Findings) -> Result<Checked, NoMemory>
     ensures { (found : List Finding) → Tells found untold (⟦<Findings as Report>⟧.told findings.now) →
         IfOk result (λ checked. (string_bytes checked.line ≡ found_line (Some found))
@@ -53,7 +53,7 @@ pub fn sum_up(alloc: Global, findings: &Findings) -> Result<Checked, NoMemory>
     ended(alloc, true, findings.kept.as_slice())
 }
 
-/// The line of what was found.
+/// Returns the line of these findings.
 fn ended(alloc: Global, image: bool, findings: &[Finding]) -> Result<Checked, NoMemory>
     ensures line { IfOk result (λ checked. string_bytes checked.line ≡ check_line image findings.now) }
     ensures whole { IfOk result (λ checked. checked.whole ≡ is_whole image findings.now) }

@@ -5,17 +5,17 @@ ghost use Rattle.image_json.specs.Findings.{untold};
 use image_check::{Finding, Report};
 use std::alloc::Global;
 
-/// Keeps findings in memory, in the order in which they are told. Once memory was refused no more are kept.
+/// Keeps findings in memory, in the order in which they are reported. Once memory was refused, no more are kept.
 #[derive(Drop)]
 pub struct Findings {
     pub(crate) kept: Vec<Finding>,
     count: u64,
-    /// Memory was refused.
+    /// Whether memory was refused.
     pub(crate) refused: bool,
 }
 
 impl Findings {
-    /// Keeps nothing yet.
+    /// Returns a store without findings.
     pub fn new(alloc: Global) -> Findings
         ensures { ⟦<Findings as Report>⟧.told result ≡ untold }
     {

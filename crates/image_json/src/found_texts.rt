@@ -1,4 +1,4 @@
-//! The texts of findings as values.
+//! The texts of findings as JSON values.
 ghost use Rattle.std.specs.Prelude.{◌≡◌, IfOk, map};
 ghost use Rattle.byte_streams.specs.Memory.{taken_by};
 ghost use Rattle.image_check.specs.Lines.{finding_text, line_of};
@@ -11,10 +11,10 @@ use image_check::{Finding, Printer, Report};
 use serde_json::Value;
 use std::alloc::{AllocError, Global};
 
-/// The room for a line.
+/// The most bytes of a line.
 const LINE: usize = 192;
 
-/// The texts of findings, in order.
+/// Returns the texts of findings, in order.
 pub(crate) fn text_values(alloc: Global, findings: &[Finding]) -> Result<Vec<Value>, AllocError>
     ensures { IfOk result (λ values. map view values.items
         ≡ map (λ finding. text_value (finding_text finding)) findings.now) }
@@ -26,7 +26,7 @@ pub(crate) fn text_values(alloc: Global, findings: &[Finding]) -> Result<Vec<Val
     Ok(values)
 }
 
-/// The text of a finding: its line without the end.
+/// Returns the text of a finding: its line without the end.
 fn text_value(alloc: Global, finding: &Finding) -> Result<Value, AllocError>
     ensures { IfOk result (λ value. view value ≡ text_value (finding_text finding.now)) }
 {
@@ -35,7 +35,7 @@ fn text_value(alloc: Global, finding: &Finding) -> Result<Value, AllocError>
     Ok(Value::String(characters(alloc, &text[..text.len() - 1])?))
 }
 
-/// The line that `image_check` prints of a finding.
+/// Returns the line that `image_check` prints for a finding.
 fn line_of(alloc: Global, finding: &Finding) -> Result<MemSink, AllocError>
     ensures { IfOk result (λ line. taken_by line ≡ line_of finding.now) }
 {

@@ -1,4 +1,4 @@
-//! What is written in a swap area, and what is wrong with its image, each as one JSON object in a line.
+//! What is written in a swap area, and what is wrong with its image, each as one JSON object on a line.
 #![tactic(auto)]
 
 mod array;

@@ -19,7 +19,7 @@ pub(crate) struct Members {
 }
 
 impl Members {
-    /// An object without a member yet.
+    /// Returns an object without members.
     pub(crate) fn new(alloc: Global) -> Members
         ensures text { string_bytes result.text ≡ [] }
         ensures last { result.last ≡ None }
@@ -32,7 +32,7 @@ impl Members {
         }
     }
 
-    /// The whole object.
+    /// Returns the whole object.
     pub(crate) fn ended(self) -> Result<String, AllocError>
         ensures { IfOk result (λ text. string_bytes text ≡ string_bytes self.text ++ closing self.last) }
     {
@@ -65,7 +65,7 @@ impl Form for Members {
     }
 }
 
-/// Adds what is printed of a fact after the one before it.
+/// Appends what is printed for a fact after the one before it.
 fn push_piece(
     alloc: Global,
     text: &mut String,

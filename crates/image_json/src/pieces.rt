@@ -9,7 +9,7 @@ use image_facts::Fact;
 use image_show::text_of;
 use std::alloc::{AllocError, Global};
 
-/// What is printed of a fact after the one before it.
+/// Returns what is printed for a fact after the one before it.
 pub(crate) fn piece(alloc: Global, last: &Option<Fact>, fact: &Fact) -> Result<String, AllocError>
     ensures { IfOk result (λ text. string_bytes text ≡ piece last.now fact.now) }
 {
@@ -26,7 +26,7 @@ pub(crate) fn piece(alloc: Global, last: &Option<Fact>, fact: &Fact) -> Result<S
     )
 }
 
-/// What is printed after the last fact.
+/// Returns what is printed after the last fact.
 pub(crate) fn closing(last: &Option<Fact>) -> &'static str
     ensures { result.now ≡ closing last.now }
 {
@@ -37,7 +37,7 @@ pub(crate) fn closing(last: &Option<Fact>) -> &'static str
     }
 }
 
-/// Whether a fact is an item of the array that the one before it is in.
+/// Returns whether a fact is an item of the array that the one before it is in.
 fn is_next_item(last: &Option<Fact>, fact: &Fact) -> bool
     ensures { result ≡ is_next_item last.now fact.now }
 {
@@ -47,7 +47,7 @@ fn is_next_item(last: &Option<Fact>, fact: &Fact) -> bool
     }
 }
 
-/// What stands between a fact and the key of the next one.
+/// Returns what comes between a fact and the key of the next one.
 fn end_of(last: &Option<Fact>) -> &'static str
     ensures { result.now ≡ end_of last.now }
 {
@@ -58,14 +58,14 @@ fn end_of(last: &Option<Fact>) -> &'static str
     }
 }
 
-/// What stands between a key and its value or its first item.
+/// Returns what comes between a key and its value or its first item.
 fn start_of(fact: &Fact) -> &'static str
     ensures { result.now ≡ start_of fact.now }
 {
     if array_of(fact).is_some() { ":[" } else { ":" }
 }
 
-/// Texts, one after another.
+/// Concatenates texts.
 pub(crate) fn joined(alloc: Global, texts: &[&str]) -> Result<String, AllocError>
     ensures { IfOk result (λ text. string_bytes text ≡ flat_map (λ part. part.now) texts.now) }
 {
@@ -76,14 +76,14 @@ pub(crate) fn joined(alloc: Global, texts: &[&str]) -> Result<String, AllocError
     Ok(all)
 }
 
-/// The key of a line.
+/// Returns the key of a line.
 fn key_in(text: &[u8]) -> &[u8]
     ensures { result.now ≡ key_in text.now }
 {
     &text[..key_len(text)]
 }
 
-/// The value of a line, after its key and a space.
+/// Returns the value of a line, which follows its key and a space.
 fn value_in(text: &[u8]) -> &[u8]
     ensures { result.now ≡ value_in text.now }
 {

@@ -9,8 +9,8 @@ use page_core::NoMemory;
 use sector_disk::Disk;
 use std::alloc::Global;
 
-/// What is written in the area whose header lies in a block, as one object in a line whose members are the facts of
-/// `expanded_show::show`. It takes memory for the line.
+/// Returns what is written in the area whose header lies in block `header`, as one object on a line whose members are
+/// the facts of `expanded_show::show`. It takes memory for the line.
 pub fn show<D: Disk>(alloc: Global, disk: &mut D, header: u32) -> Result<(Shown, String), NoMemory>
     ensures shown { IfOk result (λ shown. (facts : List OneFact)
         × (ShowsAll (D.content disk.old) (D.block_count disk.old) header

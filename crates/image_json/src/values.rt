@@ -13,7 +13,7 @@ use std::alloc::{AllocError, Global};
 /// The largest number up to which a double holds each whole number.
 const MOST: u64 = 1 << 53;
 
-/// The text of the value of a fact, whose text in a line is this.
+/// Returns the text of a fact's value; `text` is the fact's text in a line.
 pub(crate) fn value_text(alloc: Global, fact: &Fact, text: &[u8]) -> Result<String, AllocError>
     ensures { IfOk result (λ value. string_bytes value ≡ compact_text (value_by fact.now text.now)) }
 {
@@ -48,7 +48,7 @@ fn number_text(alloc: Global, n: u64) -> Result<String, AllocError>
     number(alloc, n)?.to_string(alloc)
 }
 
-/// A number, or its digits as text where a double may not hold it.
+/// Returns a number, or its digits as a string if a double may not hold it.
 fn number(alloc: Global, n: u64) -> Result<Value, AllocError>
     ensures { IfOk result (λ value. view value ≡ number_value n) }
 {
@@ -67,14 +67,14 @@ fn run_text(alloc: Global, start: u64, count: u64) -> Result<String, AllocError>
     json!(in alloc; [start, count])?.to_string(alloc)
 }
 
-/// Bytes as a JSON string.
+/// Returns bytes as a JSON string.
 pub(crate) fn string_text(alloc: Global, bytes: &[u8]) -> Result<String, AllocError>
     ensures { IfOk result (λ text. string_bytes text ≡ quoted (characters bytes.now)) }
 {
     Value::String(characters(alloc, bytes)?).to_string(alloc)
 }
 
-/// Bytes as text, each as the character of its number.
+/// Returns bytes as text, each as the character with its number.
 pub(crate) fn characters(alloc: Global, bytes: &[u8]) -> Result<String, AllocError>
     ensures { IfOk result (λ text. string_bytes text ≡ characters bytes.now) }
 {

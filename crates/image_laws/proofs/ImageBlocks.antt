@@ -221,47 +221,6 @@ stays_either p q k p_whole q_whole k_lt agree blocks b old new whole lt all trie
     either_whole v b k p q p_whole q_whole k_lt agree (omega arith)
     (λ j few. tried_sector blocks b p q old new j (get_or v (8 * b + j) []) whole lt all tries few (is.chosen (8 * b + j) (omega arith)))
 
--- Pages that agree but for a part are the same before and after it.
-
-pub agree_from_parts : (n m : ℕ) (p q : List ℕ) → length p ≡ length q → take n p ≡ take n q → drop m p ≡ drop m q → AgreeBut n m p q
-agree_from_parts n m p q size front back = record {
-  size = size;
-  before = λ i lt. sym (get_or-take n p i 0 lt) ∙ ap (λ (xs : List ℕ). get_or xs i 0) front ∙ get_or-take n q i 0 lt;
-  after = λ i le.
-      (let at : m + (i - m) ≡ i = omega arith in
-      ap (λ (k : ℕ). get_or p k 0) (sym at) ∙ sym (get_or-drop m p (i - m) 0) ∙ ap (λ (xs : List ℕ). get_or xs (i - m) 0) back
-      ∙ get_or-drop m q (i - m) 0 ∙ ap (λ (k : ℕ). get_or q k 0) at);
-}
-
-pub same_front : (n m : ℕ) (p q : List ℕ) → AgreeBut n m p q → take n p ≡ take n q
-same_front n m p q agree =
-    let size = agree.size in
-    same_number_lists (take n p) (take n q) (length-take n p ∙ ap (λ (k : ℕ). min n k) size ∙ sym (length-take n q))
-    (λ i lt.
-    let few : i < n = omega (arith, length-take n p) in
-    get_or-take n p i 0 few ∙ agree.before i few ∙ sym (get_or-take n q i 0 few))
-
-pub same_back : (n m : ℕ) (p q : List ℕ) → AgreeBut n m p q → drop m p ≡ drop m q
-same_back n m p q agree =
-    let size = agree.size in
-    same_number_lists (drop m p) (drop m q) (length-drop m p ∙ ap (λ (k : ℕ). k - m) size ∙ sym (length-drop m q))
-    (λ i lt. get_or-drop m p i 0 ∙ agree.after (m + i) (omega arith) ∙ sym (get_or-drop m q i 0))
-
--- the same of what was compared: the front of the pages, and the rest after the part
-pub agree_by_parts : (n m : ℕ) (xs ys p q : List ℕ) → xs ≡ p → ys ≡ q → IsPage p → IsPage q → take n xs ≡ take n ys → take (4096 - m) (drop m xs) ≡ take (4096 - m) (drop m ys) → AgreeBut n m p q
-agree_by_parts n m xs ys p q xs_is ys_is p_whole q_whole front back =
-    let rest : take (4096 - m) (drop m p) ≡ take (4096 - m) (drop m q) =
-    ap (λ (zs : List ℕ). take (4096 - m) (drop m zs)) (sym xs_is) ∙ back ∙ ap (λ (zs : List ℕ). take (4096 - m) (drop m zs)) ys_is in
-    agree_from_parts n m p q (p_whole ∙ sym q_whole) (ap (take n) (sym xs_is) ∙ front ∙ ap (take n) ys_is)
-    (sym (take_all (4096 - m) (drop m p) (omega (arith, length-drop m p))) ∙ rest ∙ take_all (4096 - m) (drop m q) (omega (arith, length-drop m q)))
-
-pub front_compared : (n m : ℕ) (xs ys p q : List ℕ) → xs ≡ p → ys ≡ q → AgreeBut n m p q → take n xs ≡ take n ys
-front_compared n m xs ys p q xs_is ys_is agree = ap (take n) xs_is ∙ same_front n m p q agree ∙ sym (ap (take n) ys_is)
-
-pub back_compared : (n m : ℕ) (xs ys p q : List ℕ) → xs ≡ p → ys ≡ q → AgreeBut n m p q → take (4096 - m) (drop m xs) ≡ take (4096 - m) (drop m ys)
-back_compared n m xs ys p q xs_is ys_is agree =
-    ap (take (4096 - m)) (ap (drop m) xs_is ∙ same_back n m p q agree ∙ sym (ap (drop m) ys_is))
-
 -- the mark's fields lie in the last sector
 pub marked_within : (page : List ℕ) (first flags hw : ℕ) → IsPage page → AgreeBut 3584 4096 page (marked page first flags hw)
 marked_within page first flags hw whole =

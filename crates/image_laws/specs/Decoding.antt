@@ -1,4 +1,4 @@
--- That a disk which holds an image decodes to it.
+-- A disk that holds an image decodes to that image.
 use Rattle.std.specs.Prelude.{◌≡◌, ℕ, ◌+◌, ◌<◌, [], List, All, Contains, slice_index_or}
 use Rattle.definitions.specs.Disk as disk
 use Rattle.definitions.specs.InfoPage.{IsInfo}
@@ -12,14 +12,14 @@ use Rattle.plain_machine.specs.Chain.{Holds}
 use Rattle.plain_machine.specs.Trace.{info_in, number_in, stream_page, meta_in, image_in, restored_in}
 use Rattle.plain_machine.specs.declared.event.Loader.{Loader}
 
--- An image that its pages can say: the info page's fields fit, numbers are below 2^63, and no page frame is saved twice
--- with different pages.
+-- An image that its pages can represent: the info page's fields fit, numbers are below 2^63, and no page frame is saved
+-- twice with different pages.
 pub record IsSayable (i : Image) : Type 0 where
   pub info : IsInfo (info_of_image i)
   pub numbers : All (λ saved. saved.0 < zero_bit) i.frames
   pub one_page : (s t : ℕ × List ℕ) → Contains i.frames s → Contains i.frames t → s.0 ≡ t.0 → s.1 ≡ t.1
 
--- so is each image of a memory
+-- each image of a memory can be represented
 abbrev pub MemoriesAreSayable : Type 0
 MemoriesAreSayable =
     (h : Hardware) (m : Memory) (slots : SlotPages) (f : Format) → IsHardware h →
@@ -45,7 +45,7 @@ SaysPages =
 abbrev pub Decodes : Type 0
 Decodes = (h : Hardware) (v : disk.DiskImage) (i : Image) → Holds h v i → IsSayable i → image_in h v i.slots ≡ i
 
--- [resumes]: from a disk that holds the image of a memory each saveable page frame gets its page back
+-- [resumes]: from a disk that holds the image of a memory, each saveable page frame gets its page back
 abbrev pub ResumesMemory : Type 0
 ResumesMemory =
     (h : Hardware) (m : Memory) (slots : SlotPages) (f : Format) (dump : Memory) (loader : Loader)

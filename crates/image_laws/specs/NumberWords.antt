@@ -4,7 +4,7 @@ use Rattle.definitions.specs.NumberPages.{meta_of, number_pages, marked_numbers,
 use Rattle.definitions.specs.NumberPages.{zero_bit}
 use Rattle.definitions.specs.SwapMap.{map_page, map_entry, map_link}
 
--- the words of the number pages: the numbers, then the end value where they don't fill the last page, then zeros
+-- the words of the number pages: the numbers, then the end value if they don't fill the last page, then zeros
 pub record HaveWords (numbers : List ℕ) : Type 0 where
   pub each : (j : ℕ) → j < length numbers → word_at (number_pages numbers) j ≡ slice_index numbers j
   pub ends : length numbers < 512 * meta_of (length numbers) →

@@ -1,4 +1,4 @@
--- Entries of a restore list performed one after another.
+-- The entries of a restore list, performed one after another.
 use Rattle.std.specs.Prelude.{◌≡◌, ◌≢◌, ℕ, ◌+◌, ◌<◌, ◌≤◌, List, [], ◌∷◌, length, map}
 use Rattle.std.specs.List.{range_with_len}
 use Rattle.definitions.specs.Moves.{Move, Entry, assigned, order_of_moves}
@@ -10,12 +10,12 @@ abbrev pub performed : List (List ℕ) → List Entry → List (List ℕ)
 performed frames [] = frames
 performed frames (e ∷ entries) = performed (with_run frames e.1 (run_at e.2 frames e.0)) entries
 
--- outside the bounce frame these entries do one after another what the moves do at once
+-- outside the bounce frame, these entries do one after another what the moves do at once
 abbrev pub Realises : ℕ → List Entry → List Move → List (List ℕ) → Type 0
 Realises bounce entries moves frames =
     (p : ℕ) → p ≢ bounce → frame (performed frames entries) p ≡ frame (assigned frames moves) p
 
--- so does the restore list of these moves, in any memory of at least so many page frames
+-- so does the restore list of these moves, in any memory of at least the given number of page frames
 abbrev pub RealisesMoves : ℕ → ℕ → ℕ → List Move → Type 0
 RealisesMoves least top bounce moves =
     (frames : List (List ℕ)) → least ≤ length frames → Realises bounce (order_of_moves top bounce moves) moves frames
@@ -31,7 +31,7 @@ RealisesSwap a b bounce =
 abbrev pub run_of : ℕ → ℕ → ℕ → List Move
 run_of from to n = map (λ i. (from + i, to + i)) (range_with_len 0 n)
 
--- One entry moves them, also where the places before and after overlap.
+-- One entry moves them, even if the places before and after overlap.
 abbrev pub RealisesRun : ℕ → ℕ → ℕ → Type 0
 RealisesRun from to n =
     (frames : List (List ℕ)) → from + n ≤ length frames → to + n ≤ length frames →

@@ -5,7 +5,7 @@ use Rattle.image_machine.specs.Machines.{laid, numbers_of}
 use Rattle.image_machine.specs.Plans.{IsPlan}
 use Rattle.image_machine.specs.declared.filled.FilledPlan.{FilledPlan}
 
--- just these page frames were taken, each with its page
+-- exactly these page frames were added, each with its page
 pub record IsFilled (filled : FilledPlan) (saved : List (ℕ × List ℕ)) : Type 0 where
   pub plan : IsPlan filled.plan
   pub members : filled.plan.saved.members ≡ numbers_of saved

@@ -1,4 +1,4 @@
--- The parts of an image's machine that no image says.
+-- The parts of an image's machine that the image doesn't say.
 use Rattle.std.specs.Prelude.{ℕ, ◌+◌, List, [], ◌∷◌, Option}
 use Rattle.definitions.specs.Zones.{top}
 use Rattle.plain_machine.specs.Machine.{table_len}
@@ -6,12 +6,12 @@ use Rattle.image_machine.specs.Rows.{lowest_row}
 use Rattle.image_machine.specs.declared.heading.Heading.{Heading}
 use Rattle.image_machine.specs.declared.heading.Layout.{Layout}
 
--- the zones that are given, or one that begins at page frame 0 and has so many
+-- the given zones, or, without any, one of the given number of page frames from page frame 0 on
 abbrev pub zones_or_one : List (ℕ × ℕ) → ℕ → List (ℕ × ℕ)
 zones_or_one [] pages = (0, pages) ∷ []
 zones_or_one (zone ∷ zones) pages = zone ∷ zones
 
--- the extents that are given, or one that begins at block 0 and has so many slots
+-- the given extents, or, without any, one of the given number of slots from block 0 on
 abbrev pub extents_or_one : List (ℕ × ℕ × ℕ) → ℕ → List (ℕ × ℕ × ℕ)
 extents_or_one [] slots = (0, slots, 0) ∷ []
 extents_or_one (extent ∷ extents) slots = extent ∷ extents

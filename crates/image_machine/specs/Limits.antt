@@ -1,4 +1,4 @@
--- Which limit keeps an image from having a machine.
+-- The limits that keep an image from having a machine.
 use Rattle.std.specs.Prelude.{◌≡◌, ◌≢◌, ◌<◌, ◌⊎◌, ℕ, List, length, Some, None, Ok, ⊤}
 use Rattle.definitions.specs.Slots.{extent_at}
 use Rattle.definitions.specs.Zones.{numbers}
@@ -17,7 +17,7 @@ use Rattle.image_machine.specs.declared.limit.Limit.TheVariants as limit
 use Rattle.image_machine.specs.declared.limit.Stop.{Stop}
 use Rattle.image_machine.specs.declared.limit.Stop.TheVariants as stop
 
--- the tables begin at these page frames, which are the lowest ones
+-- the tables begin at these page frames, the lowest that are possible
 pub record AreTables (heading : Heading) (layout : Layout) (saved : List ℕ) (frame_table slot_table : ℕ) : Type 0 where
   pub frame_row : frame_row (zones_of heading layout) saved ≡ Some frame_table
   pub slot_row : slot_row (zones_of heading layout) saved (slots_of heading) frame_table ≡ Some slot_table
@@ -29,13 +29,13 @@ HasNoRoom heading layout saved =
     ⊎ ((frame_table : ℕ) × ((frame_row (zones_of heading layout) saved ≡ Some frame_table)
     × (slot_row (zones_of heading layout) saved (slots_of heading) frame_table ≡ None)))
 
--- the machine with these tables has so many free page frames, fewer than a resume needs
+-- the machine with these tables has `free` free page frames, fewer than the `needed` ones of a resume
 pub record HasTooFew (heading : Heading) (saved : List ℕ) (h : Hardware) (free needed : ℕ) : Type 0 where
   pub counted : free ≡ length (unused h (fresh_memory h (slot_of_area (Ok heading.area))))
   pub needs : needed ≡ need (length saved)
   pub fewer : free < needed
 
--- What the image and the layout pass, whatever page frames were saved.
+-- The limit that the image and the layout violate, whatever page frames were saved.
 abbrev pub PassesAtOnce : Heading → Layout → Limit → Type 0
 PassesAtOnce heading layout (limit.Memory pages) = (pages ≡ heading.physpages) × (65536 < pages)
 PassesAtOnce heading layout (limit.Slots last) = (last ≡ heading.area.last) × (131071 < last)
@@ -50,7 +50,7 @@ PassesAtOnce heading layout (limit.Hardware fault) = ⊥
 PassesAtOnce heading layout (limit.TooFew have need) = ⊥
 PassesAtOnce heading layout (limit.Tables number) = ⊥
 
--- What they pass, where just these page frames were saved and each is valid.
+-- The limit that they violate if exactly these page frames were saved and each is valid.
 abbrev pub PassesAtLast : Heading → Layout → List ℕ → Limit → Type 0
 PassesAtLast heading layout saved (limit.Memory pages) = ⊥
 PassesAtLast heading layout saved (limit.Slots last) = ⊥
@@ -67,7 +67,7 @@ PassesAtLast heading layout saved (limit.TooFew have need) =
     × HasTooFew heading saved (hardware_with heading layout f s) have need))
 PassesAtLast heading layout saved (limit.Tables number) = ⊥
 
--- nothing was made, since a limit is passed, or since memory was refused
+-- nothing was made, because a limit is violated or memory was refused
 abbrev pub StopsAtOnce : Heading → Layout → Stop → Type 0
 StopsAtOnce heading layout (stop.Limit limit) = PassesAtOnce heading layout limit
 StopsAtOnce heading layout stop.Memory = ⊤

@@ -10,7 +10,7 @@ use Rattle.image_machine.specs.Layouts.{extents_of, frame_row, slot_row, slots_o
 use Rattle.image_machine.specs.declared.heading.Heading.{Heading}
 use Rattle.image_machine.specs.declared.heading.Layout.{Layout}
 
--- the hardware whose tables begin at these page frames
+-- the hardware with tables that begin at these page frames
 abbrev pub hardware_with : Heading → Layout → ℕ → ℕ → Hardware
 hardware_with heading layout frame_table slot_table = record {
   zones = zones_of heading layout;
@@ -23,9 +23,9 @@ hardware_with heading layout frame_table slot_table = record {
   extents = extents_of heading layout;
 }
 
--- The machine has what the image says of it, its tables lie in page frames that the image doesn't save, its memory is
--- that of a boot, and as many page frames are free as a resume needs. What a resume compares is the same: the number
--- of page frames, and the block of slot 0.
+-- The machine is as the image says, its tables lie in page frames that the image doesn't save, its memory is that of a
+-- boot, and it has as many free page frames as a resume needs. What a resume compares is the same: the number of page
+-- frames, and the block of slot 0.
 pub record IsLoaderFor (heading : Heading) (layout : Layout) (saved : List ℕ) (h : Hardware) (m : Memory) : Type 0 where
   pub is : h ≡ hardware_with heading layout h.frame_table h.slot_table
   pub frame_table : frame_row h.zones saved ≡ Some h.frame_table

@@ -19,19 +19,19 @@ use Rattle.image_machine.specs.declared.heading.Layout.{Layout}
 use Rattle.image_machine.specs.declared.limit.Limit.{Limit}
 use Rattle.image_machine.specs.declared.limit.Limit.TheVariants as limit
 
--- the numbers of saved page frames, of which each has its page
+-- the numbers of the saved page frames, each of which comes with its page
 abbrev pub numbers_of : List (ℕ × List ℕ) → List ℕ
 numbers_of saved = map (λ (s : ℕ × List ℕ). s.0) saved
 
--- so many page frames of zeros, over which the saved pages are laid
+-- page frame p of memory that is all zeros but for the saved pages
 abbrev pub laid_page : List (ℕ × List ℕ) → ℕ → List ℕ
 laid_page saved p = page_or (saved_page saved p) zero_page
 
 unfoldable pub laid : ℕ → List (ℕ × List ℕ) → Memory
 laid n saved = map (laid_page saved) (range_with_len 0 n)
 
--- A valid page frame that wasn't saved and is no table's is free; every other entry is 0: in use, with no owner and
--- no flag.
+-- A valid page frame that wasn't saved and isn't part of a table is free; every other entry is 0: in use, with no owner
+-- and no flag.
 unfoldable pub entry_with : Hardware → List ℕ → ℕ → ℕ
 entry_with h saved p = if is_unsaved h.zones saved p && not (is_table_frame h p) then 1 else 0
 
@@ -42,16 +42,16 @@ memory_with h slots saved =
     (with_each_entry (entry_with h (numbers_of saved)) (range_with_len 0 (top h.zones)) h.frame_table
     (laid (top h.zones) saved))
 
--- just these page frames are saveable
+-- exactly these page frames are saveable
 abbrev pub SavesJust : Hardware → Memory → List ℕ → Type 0
 SavesJust h m saved = (p : ℕ) → Contains (saveable h m) p ↔ Contains saved p
 
--- page frame n is the first of which the tables and the image don't say the same
+-- page frame n is the first on which the tables and the image disagree
 pub record IsFirstAmiss (h : Hardware) (m : Memory) (saved : List ℕ) (n : ℕ) : Type 0 where
   pub before : (p : ℕ) → p < n → Contains (saveable h m) p ↔ Contains saved p
   pub amiss : Contains (saveable h m) n ↔ Contains saved n → ⊥
 
--- What memory is, where the image has the machine's tables from these page frames on, or where it has none.
+-- The memory of the machine, for an image that has its tables from these page frames on, or that has none.
 abbrev pub HasMemory : Heading → Layout → Option (ℕ × ℕ) → List (ℕ × List ℕ) → Hardware → Memory → Type 0
 HasMemory heading layout None saved h m =
     AreTables heading layout (numbers_of saved) h.frame_table h.slot_table
@@ -61,8 +61,8 @@ HasMemory heading layout (Some tables) saved h m =
     (h ≡ hardware_with heading layout tables.0 tables.1) × (m ≡ laid (top h.zones) saved)
     × SavesJust h m (numbers_of saved)
 
--- The machine has what the image says of it, and each saved page frame is in use and has its page. It can hibernate:
--- what a dump must hold it has.
+-- The machine is as the image says, and each saved page frame is in use and has its page. The machine can hibernate: it
+-- has all that a dump must hold.
 pub record IsMachineFor (heading : Heading) (layout : Layout) (tables : Option (ℕ × ℕ)) (saved : List (ℕ × List ℕ))
     (h : Hardware) (m : Memory) : Type 0 where
   pub is : h ≡ hardware_with heading layout h.frame_table h.slot_table
@@ -74,7 +74,7 @@ pub record IsMachineFor (heading : Heading) (layout : Layout) (tables : Option (
   pub whole : All IsPage (laid (top h.zones) saved)
   pub memory : HasMemory heading layout tables saved h m
 
--- Which limit the tables pass that have no room, or that a machine doesn't have.
+-- The limit that is violated by tables that have no room or that no machine has.
 abbrev pub PassesByTables : Heading → Layout → List ℕ → Limit → Type 0
 PassesByTables heading layout saved (limit.Memory pages) = ⊥
 PassesByTables heading layout saved (limit.Slots last) = ⊥
@@ -89,7 +89,7 @@ PassesByTables heading layout saved (limit.Hardware fault) =
 PassesByTables heading layout saved (limit.TooFew have need) = ⊥
 PassesByTables heading layout saved (limit.Tables number) = ⊥
 
--- Which limit the machine's own tables pass, over the memory in which they lie.
+-- The limit that the machine's own tables violate, over the memory in which they lie.
 abbrev pub PassesByOwn : Hardware → List (ℕ × List ℕ) → Limit → Type 0
 PassesByOwn h saved (limit.Memory pages) = ⊥
 PassesByOwn h saved (limit.Slots last) = ⊥

@@ -7,12 +7,12 @@ use Rattle.image_machine.specs.Layouts.{extents_of, zones_of}
 use Rattle.image_machine.specs.declared.heading.Heading.{Heading}
 use Rattle.image_machine.specs.declared.plan.Plan.{Plan}
 
--- neither memory nor the area is larger than a machine's
+-- neither the memory nor the area is larger than a machine allows
 pub record IsSmall (heading : Heading) : Type 0 where
   pub memory : heading.physpages ≤ 65536
   pub slots : heading.area.last ≤ 131071
 
--- the heading and the layout pass no limit yet
+-- the heading and the layout violate no limit so far
 pub record IsPlan (plan : Plan) : Type 0 where
   pub small : IsSmall plan.heading
   pub zones : plan.zones ≡ zones_of plan.heading plan.layout

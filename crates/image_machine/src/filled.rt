@@ -17,7 +17,7 @@ use page_core::Page;
 use saveable::{View, saveable};
 use std::alloc::Global;
 
-/// A plan, and page frames in which the pages lie that were saved.
+/// A plan, and the saved pages in their page frames.
 #[derive(Drop)]
 pub struct FilledPlan<'a> {
     pub plan: Plan<'a>,
@@ -32,7 +32,7 @@ impl<'a> FilledPlan<'a> {
     ghost use Rattle.image_machine.specs.Machines.{IsMachineFor, PassesWith, numbers_of};
     ghost use Rattle.image_machine.specs.declared.limit.Limit.TheVariants as limit;
 
-    /// Begins with an image of which no saved page frame is known.
+    /// Returns a plan for an image of which no saved page frame is known yet.
     pub fn of(alloc: Global, heading: &Heading, layout: Layout<'a>) -> Result<FilledPlan<'a>, Stop>
         ensures filled { IfOk result (λ filled. IsFilled filled []) }
         ensures heading { IfOk result (λ filled. filled.plan.heading ≡ heading.now) }
@@ -44,7 +44,7 @@ impl<'a> FilledPlan<'a> {
         Ok(FilledPlan { plan, frames })
     }
 
-    /// Takes a page frame that was saved, with its page. Its number is above those before.
+    /// Adds a page frame that was saved, with its page. Its number is above those before it.
     pub fn add(&mut self, number: u64, page: &Page) -> Result<(), Limit>
         requires { (saved : List (ℕ × List ℕ)) × IsFilled self.old saved }
         ensures filled { OnOk result ((saved : List (ℕ × List ℕ)) → IsFilled self.old saved →
@@ -60,8 +60,8 @@ impl<'a> FilledPlan<'a> {
         Ok(())
     }
 
-    /// The machine of an image of which these are all saved page frames. Its tables are in the image, from these page
-    /// frames on, or else it is given tables in page frames that the image doesn't save.
+    /// Returns the machine of an image, once all its saved page frames were added. Its tables are in the image, from
+    /// these page frames on; without `tables` it gets tables in page frames that the image doesn't save.
     #[inline(never)]
     pub fn machine(self, tables: Option<(u32, u32)>) -> Result<Dump, Limit>
         requires { (saved : List (ℕ × List ℕ)) × IsFilled self saved }
@@ -76,7 +76,7 @@ impl<'a> FilledPlan<'a> {
         }
     }
 
-    /// The machine that is given tables.
+    /// Returns the machine with new tables.
     fn with_new_tables(self) -> Result<Dump, Limit>
         requires { (saved : List (ℕ × List ℕ)) × IsFilled self saved }
         ensures machine { IfOk result (λ dump. (saved : List (ℕ × List ℕ)) → IsFilled self.entry saved →
@@ -92,7 +92,7 @@ impl<'a> FilledPlan<'a> {
         Ok(Dump { hw, frames })
     }
 
-    /// The machine whose tables are in the image.
+    /// Returns the machine whose tables are in the image.
     fn with_own_tables(self, frame_table: u32, slot_table: u32) -> Result<Dump, Limit>
         requires { (saved : List (ℕ × List ℕ)) × IsFilled self saved }
         ensures machine { IfOk result (λ dump. (saved : List (ℕ × List ℕ)) → IsFilled self.entry saved →
@@ -113,7 +113,8 @@ impl<'a> FilledPlan<'a> {
     }
 }
 
-/// Whether just the saved page frames are saveable; else the first page frame that is one of both alone.
+/// Checks that exactly the saved page frames are saveable; the error is the first page frame that is one but not the
+/// other.
 fn saves_just(frames: &Frames, hw: &Hardware, saved: &Bitmap) -> Result<(), u32>
     requires size { length frames.now ≡ top hw.now.zones }
     requires zones { saved.now.zones ≡ hw.now.zones }

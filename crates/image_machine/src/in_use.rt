@@ -12,7 +12,7 @@ use machine::Hardware;
 use memory_bitmap::Bitmap;
 use page_states::{PageFlags, set_entry};
 
-/// The flags of a free page frame, and of one in use that has none.
+/// The flags of a free page frame, and those of one in use without any flag.
 const FREE: u16 = 1;
 
 const IN_USE: u16 = 0;
@@ -30,7 +30,7 @@ pub(crate) fn set_in_use(frames: &mut Frames, hw: &Hardware, saved: &Bitmap)
     }
 }
 
-/// The flags of a page frame.
+/// Returns the flags of a page frame.
 #[tactic(auto, unfolding(crate::specs::Machines::entry_with))]
 fn flags_with(hw: &Hardware, saved: &Bitmap, p: u32) -> u16
     ensures { result ≡ entry_with hw.now saved.now.members p }
@@ -42,7 +42,7 @@ fn flags_with(hw: &Hardware, saved: &Bitmap, p: u32) -> u16
     }
 }
 
-/// Whether a page frame is one of the tables'.
+/// Returns whether a page frame belongs to one of the tables.
 fn is_table_frame(hw: &Hardware, p: u32) -> bool
     ensures { result ≡ is_table_frame hw.now p }
 {
@@ -50,7 +50,7 @@ fn is_table_frame(hw: &Hardware, p: u32) -> bool
         || is_of_table(hw.slot_table(), hw.slots(), p)
 }
 
-/// Whether a page frame is one of a table with so many entries.
+/// Returns whether page frame `p` belongs to a table with `entries` entries.
 fn is_of_table(first: u32, entries: u32, p: u32) -> bool
     ensures { result ≡ is_of_table first entries p }
 {

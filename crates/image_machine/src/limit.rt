@@ -19,13 +19,13 @@ pub enum Limit {
     /// The zones have another number of page frames than the machine had.
     #[error("page frames in zones {count}: memory pages {pages}")]
     Count { count: u32, pages: u64 },
-    /// Slot 0, which has the header, lies on another block.
+    /// Slot 0, which holds the header, lies on another block.
     #[error("block of slot 0 {block}: offset {offset}")]
     Offset { block: u32, offset: u32 },
-    /// A page frame that was saved isn't one of the zones'.
+    /// A page frame that was saved isn't in any zone.
     #[error("page frame {number} lies in no zone")]
     Outside { number: u64 },
-    /// The page frames that weren't saved don't lie such that both tables have room.
+    /// The page frames that weren't saved leave no room for both tables.
     #[error("no room for the tables")]
     NoRoom,
     #[error("{0}")]
@@ -33,7 +33,7 @@ pub enum Limit {
     /// A resume needs more free page frames than there are.
     #[error("free page frames {have}: needed {need}")]
     TooFew { have: u32, need: u64 },
-    /// The tables that are said to be in the image aren't a machine's, or save other page frames than the image.
+    /// The tables that should be in the image aren't a machine's, or save other page frames than the image.
     #[error("tables: page frame {number}")]
     Tables { number: u32 },
 }

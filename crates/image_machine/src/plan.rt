@@ -31,16 +31,16 @@ use sig_header::Area;
 use std::alloc::Global;
 use zones::{ZoneFault, Zones};
 
-/// A machine has at most this many page frames.
+/// The most page frames that a machine has.
 const MOST_FRAMES: u64 = 65536;
 
-/// The last slot of an area is at most this one.
+/// The largest number that the last slot of an area can have.
 const LAST_SLOT: u32 = 131071;
 
-/// One list frame of a resume serves this many moves.
+/// The number of moves that one list frame of a resume serves.
 const MOVES_A_LIST_FRAME: u32 = 85;
 
-/// What is known of an image's machine, while the numbers of its saved page frames are read.
+/// What is known of an image's machine while the numbers of its saved page frames are read.
 #[derive(Drop)]
 pub struct Plan<'a> {
     pub heading: Heading,
@@ -66,7 +66,7 @@ impl<'a> Plan<'a> {
     ghost use Rattle.std.specs.Prelude.{None, Some};
     ghost use Rattle.image_machine.specs.declared.limit.Limit.TheVariants as limit;
 
-    /// Begins with an image of which no saved page frame is known.
+    /// Returns a plan for an image of which no saved page frame is known yet.
     #[inline(never)]
     pub fn of(alloc: Global, heading: &Heading, layout: Layout<'a>) -> Result<Plan<'a>, Stop>
         ensures plan { IfOk result IsPlan }
@@ -87,7 +87,7 @@ impl<'a> Plan<'a> {
         })
     }
 
-    /// Takes the number of a page frame that was saved.
+    /// Adds the number of a page frame that was saved.
     pub fn add(&mut self, number: u64) -> Result<(), Limit>
         requires { IsPlan self.old }
         ensures plan { IsPlan self.new }
@@ -110,7 +110,7 @@ impl<'a> Plan<'a> {
         Ok(())
     }
 
-    /// The loader of an image of which these are all saved page frames.
+    /// Returns the loader of an image, once all its saved page frames were added.
     #[inline(never)]
     pub fn loader(&self, alloc: Global) -> Result<Dump, Stop>
         requires { IsPlan self.now }
@@ -124,7 +124,7 @@ impl<'a> Plan<'a> {
         Ok(Dump { hw, frames })
     }
 
-    /// The machine whose tables lie in unsaved page frames.
+    /// Returns the machine whose tables lie in unsaved page frames.
     #[inline(never)]
     pub(crate) fn hardware(&self) -> Result<Hardware, Limit>
         requires { IsPlan self.now }
@@ -140,7 +140,7 @@ impl<'a> Plan<'a> {
         self.hardware_with(frame_table, slot_table)
     }
 
-    /// The machine whose tables begin at these page frames.
+    /// Returns the machine whose tables begin at these page frames.
     pub(crate) fn hardware_with(&self, frame_table: u32, slot_table: u32) -> Result<Hardware, Limit>
         requires { IsPlan self.now }
         ensures hardware { IfOk result (λ hw.
@@ -169,7 +169,7 @@ impl<'a> Plan<'a> {
         }
     }
 
-    /// How many slots the area has.
+    /// Returns how many slots the area has.
     fn slots(&self) -> u32
         requires { IsPlan self.now }
         ensures { result ≡ slots_of self.now.heading }
@@ -177,7 +177,7 @@ impl<'a> Plan<'a> {
         self.heading.area.last + 1
     }
 
-    /// The first page frames of the frame table and of the slot table.
+    /// Returns the first page frames of the frame table and of the slot table.
     fn tables(&self, slots: u32) -> Result<(u32, u32), Limit>
         requires plan { IsPlan self.now }
         requires slots { slots ≡ slots_of self.now.heading }
@@ -198,7 +198,7 @@ impl<'a> Plan<'a> {
     }
 }
 
-/// The extents that are given, or else this one.
+/// Returns the given extents, or else `one`.
 fn given_or<'a>(given: &'a [(u32, u32, u32)], one: &'a [(u32, u32, u32)]) -> &'a [(u32, u32, u32)]
     requires { (slots : ℕ) × (one.now ≡ (0, slots, 0) ∷ []) }
     ensures { (slots : ℕ) → one.now ≡ (0, slots, 0) ∷ [] → result.now ≡ extents_or_one given.now slots }
@@ -209,7 +209,7 @@ fn given_or<'a>(given: &'a [(u32, u32, u32)], one: &'a [(u32, u32, u32)]) -> &'a
     }
 }
 
-/// Whether neither memory nor the area is larger than a machine's.
+/// Checks that neither the memory nor the area is larger than a machine allows.
 fn is_small(heading: &Heading) -> Result<(), Limit>
     ensures small { OnOk result (IsSmall heading.now) }
     ensures passed { IfErr result (λ why. (layout : Layout) → PassesAtOnce heading.now layout why) }
@@ -225,7 +225,7 @@ fn is_small(heading: &Heading) -> Result<(), Limit>
     Ok(())
 }
 
-/// The zones that are given, or else the one of all page frames.
+/// Returns the given zones, or else the one of all page frames.
 fn zones_of(heading: &Heading, layout: &Layout<'_>) -> Result<Zones, Limit>
     requires { heading.now.physpages ≤ 65536 }
     ensures zones { IfOk result (λ zones. zones ≡ zones_of heading.now layout.now) }
@@ -254,7 +254,7 @@ fn zones_given(given: &[(u32, u32)], pages: u32) -> Result<Zones, ZoneFault>
     }
 }
 
-/// Whether slot 0 lies on the block of the area's header.
+/// Checks that slot 0 lies on the block of the area's header.
 fn begins_at_header(layout: &Layout<'_>) -> Result<(), Limit>
     ensures header { OnOk result ((heading : Heading) →
         (extent_at (extents_of heading layout.now) 0).2 ≡ layout.now.offset) }
@@ -268,7 +268,7 @@ fn begins_at_header(layout: &Layout<'_>) -> Result<(), Limit>
     Ok(())
 }
 
-/// The block of slot 0.
+/// Returns the block of slot 0.
 fn first_block(extents: &[(u32, u32, u32)]) -> u32
     ensures { (slots : ℕ) → result ≡ (extent_at (extents_or_one extents.now slots) 0).2 }
 {
@@ -278,7 +278,7 @@ fn first_block(extents: &[(u32, u32, u32)]) -> u32
     }
 }
 
-/// The memory of a boot.
+/// Returns the memory of a boot.
 fn fresh_frames(alloc: Global, hw: &Hardware, area: &Area) -> Result<Frames, NoMemory>
     ensures fresh { IfOk result (λ frames. frames ≡ fresh_memory hw.now (slot_of_area (Ok area.now))) }
     ensures fits { IfOk result (Fits hw.now) }
@@ -289,7 +289,7 @@ fn fresh_frames(alloc: Global, hw: &Hardware, area: &Area) -> Result<Frames, NoM
     Ok(frames)
 }
 
-/// Whether as many page frames are free as a resume of so many pages needs.
+/// Checks that as many page frames are free as a resume of `saved` pages needs.
 fn has_room(hw: &Hardware, frames: &Frames, saved: u32) -> Result<(), Limit>
     requires size { length frames.now ≡ top hw.now.zones }
     ensures room { OnOk result (need saved ≤ length (unused hw.now frames.now)) }

@@ -7,18 +7,18 @@ ghost use Rattle.image_machine.specs.Rows.{is_clear, is_unsaved, lie_apart, lowe
 use memory_bitmap::Bitmap;
 use zones::Zones;
 
-/// How many entries of 4 bytes a page frame has.
+/// The number of entries of 4 bytes in a page frame.
 const ENTRIES: u32 = 1024;
 
-/// How many page frames a table with so many entries takes.
+/// Returns how many page frames a table with `entries` entries takes.
 pub(crate) fn table_len(entries: u32) -> u32
     ensures { result ≡ table_len entries }
 {
     entries.div_ceil(ENTRIES)
 }
 
-/// The first page frame of the lowest row of so many valid page frames of which none was saved and none lies in
-/// another row.
+/// Returns the first page frame of the lowest row of `len` valid page frames, none of which was saved or lies in the
+/// row `other`.
 pub(crate) fn lowest_row(zones: &Zones, saved: &Bitmap, len: u32, other: (u32, u32)) -> Option<u32>
     requires len { len ≤ 128 }
     ensures { result ≡ lowest_row zones.now saved.now.members len other }
@@ -27,7 +27,7 @@ pub(crate) fn lowest_row(zones: &Zones, saved: &Bitmap, len: u32, other: (u32, u
         && is_clear(zones, saved, first, len))
 }
 
-/// Whether each page frame of a row is valid and wasn't saved.
+/// Returns whether each page frame of a row is valid and wasn't saved.
 fn is_clear(zones: &Zones, saved: &Bitmap, first: u32, len: u32) -> bool
     requires { first + len ≤ 131072 }
     ensures { result ≡ is_clear zones.now saved.now.members len first }
@@ -35,14 +35,14 @@ fn is_clear(zones: &Zones, saved: &Bitmap, first: u32, len: u32) -> bool
     (first..first + len).all(|p| is_unsaved(zones, saved, p))
 }
 
-/// Whether a page frame is valid and wasn't saved.
+/// Returns whether a page frame is valid and wasn't saved.
 pub(crate) fn is_unsaved(zones: &Zones, saved: &Bitmap, p: u32) -> bool
     ensures { result ≡ is_unsaved zones.now saved.now.members p }
 {
     zones.valid(p) && !saved.has(p)
 }
 
-/// Whether of two rows, each the first page frame and how many they are, one lies below the other.
+/// Returns whether one of two rows, each given by its first page frame and its length, lies below the other.
 fn lie_apart(a: (u32, u32), b: (u32, u32)) -> bool
     ensures { result ≡ lie_apart a b }
 {

@@ -6,7 +6,7 @@ use Rattle.machine.specs.declared.hardware.HardFault.TheVariants as hard
 use Rattle.image_machine.specs.declared.limit.Limit.{Limit}
 use Rattle.image_machine.specs.declared.limit.Limit.TheVariants as limit
 
--- Zones, slots and regions were looked at before, and tables unless they are said to be in the image.
+-- Zones, slots and regions were checked before, and so were tables unless they should be in the image.
 abbrev pub hardware_text : HardFault → List ℕ
 hardware_text hard.Zones = codes "hardware refused"
 hardware_text hard.Slots = codes "hardware refused"

@@ -21,11 +21,11 @@ use Rattle.image_machine_cli.specs.Makes.{MakesWanted}
 use Rattle.image_machine_cli.specs.declared.wanted.Wanted.{Wanted}
 use Rattle.image_machine_cli.specs.declared.wanted.Wanted.TheVariants.{Loader, Saved}
 
--- nothing on out, and this as the note
+-- nothing is printed, and this is noted
 abbrev pub refused : List ℕ → RunResult
 refused note = record { status = status.Refused; out = []; note = note }
 
--- The dump; or why there is none, where that isn't told as findings.
+-- The dump, or why there is none, if that isn't reported as findings.
 abbrev pub made_told : Made → RunResult
 made_told NoImage = refused (line (codes "no image"))
 made_told Refused = refused []
@@ -41,7 +41,7 @@ HasFrames NoArea = ⊤
 HasFrames (Limit limit) = ⊤
 HasFrames (Dump dump) = length dump.frames ≡ top dump.hw.zones
 
--- What was made of the image is told, or that memory was refused. Findings may be noted first.
+-- Either what was made of the image is printed, or that memory was refused. Findings may be noted first.
 pub data TellsMade (makes : Told → Made → Type 0) (told : Told) (status : Status)
     (out out' note' : SinkView) : Type 0 where
   made : (what : Made) (then : Told) (note : SinkView) → makes then what → IsNoted then note →
@@ -49,8 +49,7 @@ pub data TellsMade (makes : Told → Made → Type 0) (told : Told) (status : St
   no_memory : (note : SinkView) → IsNoted told note → IsTold memory_told status out out' note note' →
       TellsMade makes told status out out' note'
 
--- The dump of the machine that is wanted, with the heading of an area and the page frames that are read by a header
--- block.
+-- The dump of the requested machine, from the heading of an area and the page frames that are read by a header block.
 abbrev pub GivesFrom : Wanted → (area content : Option Content) → (blocks header before now : ℕ) → Told → Layout →
     Status → (out out' note' : SinkView) → Type 0
 GivesFrom wanted area content blocks header before now told layout status out out' note' =
@@ -58,7 +57,7 @@ GivesFrom wanted area content blocks header before now told layout status out ou
     told status out out' note'
 
 -- The heading is that of the area, whether the image is compressed or not. The page frames of a compressed one are
--- those of the plain image that it expands to; where something is wrong with it just that is noted.
+-- those of the plain image that it expands to; if something is wrong with it, exactly that is noted.
 abbrev pub GivesDump : Wanted → Option Content → (blocks before now : ℕ) → Told → Layout → Status →
     (out out' note' : SinkView) → Type 0
 GivesDump wanted content blocks before now told layout status out out' note' =
@@ -66,7 +65,7 @@ GivesDump wanted content blocks before now told layout status out out' note' =
     (λ found. NotesFindings found told status out out' note') (NotesMemory told status out out' note')
     content blocks layout.offset before now
 
--- a compressed one alone
+-- the same for a compressed image only
 abbrev pub GivesExpanded : Wanted → Option Content → Index → (before now : ℕ) → Told → Layout → Status →
     (out out' note' : SinkView) → Type 0
 GivesExpanded wanted content index before now told layout status out out' note' =

@@ -22,7 +22,7 @@ use page_core::NoMemory;
 use sector_disk::Disk;
 use std::alloc::Global;
 
-/// A compressed image that is whole, and the machine that is wanted of it.
+/// A compressed image that is whole, and the machine that is requested of it.
 #[derive(Drop)]
 pub(crate) struct Whole<'a> {
     pub index: Index,
@@ -30,7 +30,7 @@ pub(crate) struct Whole<'a> {
     pub wanted: Wanted,
 }
 
-/// Prints the dump that is wanted of an image that isn't compressed.
+/// Prints the requested dump of an image that isn't compressed.
 #[inline(never)]
 pub(crate) fn dump_plain<D: Disk, O: Sink, N: Sink>(
     alloc: Global,
@@ -60,7 +60,7 @@ pub(crate) fn dump_plain<D: Disk, O: Sink, N: Sink>(
     }
 }
 
-/// Prints the dump that is wanted of the plain image that a compressed one expands to, over a disk that is given back.
+/// Prints the requested dump of the plain image that a compressed one expands to, over a disk that is given back.
 #[inline(never)]
 pub(crate) fn dump_expanded<B: Walks + Drop, K: Original, O: Sink, N: Sink>(
     alloc: Global,
@@ -97,7 +97,7 @@ pub(crate) fn dump_expanded<B: Walks + Drop, K: Original, O: Sink, N: Sink>(
     }
 }
 
-/// Prints the dump that is wanted of an image whose heading was read, over a disk that has its page frames.
+/// Prints the requested dump of an image whose heading was read, over a disk that has its page frames.
 fn dump_from<D: Disk, O: Sink, N: Sink>(
     alloc: Global,
     disk: &mut D,

@@ -5,7 +5,7 @@ use byte_streams::Line;
 use image_machine::Limit;
 use machine::HardFault;
 
-/// The line that says which limit is passed.
+/// Returns the line that says which limit is violated.
 pub fn limit_line(limit: &Limit) -> Line
     ensures { result ≡ limit_line limit.now }
 {

@@ -19,8 +19,8 @@ use sector_disk::Disk;
 use std::alloc::Global;
 use std::marker::Brand;
 
-/// Prints the dump of a loader into which the image of an area can be resumed. Where there is none the note says why:
-/// what is wrong with the image, or which limit is passed. A compressed image is read whole first. The disk is only
+/// Prints the dump of a loader into which the image of an area can be resumed. If there is none, the note says why:
+/// what is wrong with the image, or which limit it violates. A compressed image is read whole first. The disk is only
 /// read.
 #[inline(never)]
 pub fn loader<D: Disk, O: Sink, N: Sink>(
@@ -47,9 +47,9 @@ pub fn loader<D: Disk, O: Sink, N: Sink>(
     dump(alloc, disk, layout, Wanted::Loader, out, note)
 }
 
-/// Prints the dump of the machine that the image of an area saved. Its tables are in the image, from these page
-/// frames on, or else it is given new ones. Where there is no such machine the note says why: what is wrong with the
-/// image, or which limit is passed. A compressed image is read whole first. The disk is only read.
+/// Prints the dump of the machine that the image of an area saved. Its tables are in the image, from these page frames
+/// on; without them it gets new ones. If there is no such machine, the note says why: what is wrong with the image, or
+/// which limit it violates. A compressed image is read whole first. The disk is only read.
 #[inline(never)]
 pub fn machine<D: Disk, O: Sink, N: Sink>(
     alloc: Global,
@@ -76,7 +76,7 @@ pub fn machine<D: Disk, O: Sink, N: Sink>(
     dump(alloc, disk, layout, Wanted::Saved(tables), out, note)
 }
 
-/// Prints the dump of the machine that is wanted. Of a compressed image the heading is that of the area, and the page
+/// Prints the dump of the requested machine. For a compressed image, the heading is that of the area, and the page
 /// frames are those of the plain image that it expands to.
 fn dump<D: Disk, O: Sink, N: Sink>(
     alloc: Global,

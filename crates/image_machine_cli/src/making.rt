@@ -11,7 +11,7 @@ use page_core::NoMemory;
 use sector_disk::Disk;
 use std::alloc::Global;
 
-/// Makes the dump that is wanted of an image that isn't compressed.
+/// Makes the requested dump of an image that isn't compressed.
 pub(crate) fn make_plain<D: Disk, R: Report>(
     alloc: Global,
     disk: &mut D,
@@ -33,7 +33,7 @@ pub(crate) fn make_plain<D: Disk, R: Report>(
     }
 }
 
-/// The same of an image whose heading was read, over a disk that has its page frames and their header in block 0.
+/// Does the same for an image whose heading was read, over a disk that has its page frames and their header in block 0.
 pub(crate) fn make_from<D: Disk, R: Report>(
     alloc: Global,
     disk: &mut D,

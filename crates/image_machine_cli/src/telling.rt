@@ -10,7 +10,7 @@ use command_kit::{Status, tell};
 use image_dump::Made;
 use swsusp_cli::tell_dump;
 
-/// Tells what was made of an image.
+/// Prints what was made of an image.
 pub(crate) fn tell_made<O: Sink, N: Sink>(made: &Made, out: &mut O, note: &mut N) -> Status
     requires frames { HasFrames made.now }
     ensures told { IsTold (made_told made.now) result

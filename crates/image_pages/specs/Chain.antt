@@ -6,24 +6,24 @@ use Rattle.definitions.specs.SwapHeader.{image_of}
 use Rattle.plain_machine.specs.Chain.{entry_block}
 use Rattle.image_check.specs.Info.{counts_in}
 
--- page k of the stream, from 0, where the area's header lies in a block: entry k of the chain names it
+-- page k of the stream, from 0, of the area with the given header block: entry k of the chain names it
 abbrev pub chain_page : DiskImage → (header k : ℕ) → List ℕ
 chain_page v header k = block v (entry_block v (image_of (block v header)) k)
 
--- all of its pages: as many as the info page says, which is the first
+-- all pages of the stream: as many as its first page, the info page, says
 abbrev pub chain_pages : DiskImage → ℕ → List (List ℕ)
 chain_pages v header = map (chain_page v header) (range_with_len 0 (counts_in (chain_page v header 0)).pages)
 
--- a page is page k of the stream, where the disk tells what it holds
+-- a page is page k of the stream, if the disk tells what it holds
 abbrev pub IsChainPage : Option Content → (header k : ℕ) → List ℕ → Type 0
 IsChainPage content header k page = IfSome content (λ held. page ≡ chain_page (as_it_reads held) header k)
 
--- these are the first pages of the stream, where the disk tells what it holds
+-- these are the first pages of the stream, if the disk tells what it holds
 abbrev pub AreFirst : Option Content → ℕ → List (List ℕ) → Type 0
 AreFirst content header pages =
     IfSome content (λ held. pages ≡ map (chain_page (as_it_reads held) header) (range_with_len 0 (length pages)))
 
--- the first of the pages is an info page, which says how many they are
+-- the first of the pages is an info page, which says how many pages there are
 abbrev pub IsSized : List (List ℕ) → Type 0
 IsSized [] = ⊥
 IsSized (info ∷ pages) = length (info ∷ pages) ≡ (counts_in info).pages

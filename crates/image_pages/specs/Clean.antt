@@ -14,7 +14,7 @@ use Rattle.image_check.specs.Image.{history_findings}
 use Rattle.image_check.specs.Info.{counts_in}
 use Rattle.image_check.specs.declared.finding.Counts.{Counts}
 
--- what a header block says of its image: which blocks it may name, its first map, and how pages of zeros are saved
+-- what a header block says of its image: the blocks that it may name, its first map, and how pages of zeros are saved
 pub record Start : Type 0 where
   pub limits : Limits
   pub first : ℕ
@@ -51,7 +51,7 @@ abbrev pub pages_in : List Name → List (List ℕ)
 pages_in [] = []
 pages_in (x ∷ h) = pages_in h ++ pages_of x
 
--- what the first of the pages, an info page, says
+-- what the first of the pages, the info page, says
 abbrev pub counts_by : List (List ℕ) → Option Counts
 counts_by [] = None
 counts_by (info ∷ pages) = Some (counts_in info)

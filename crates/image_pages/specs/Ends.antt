@@ -1,4 +1,4 @@
--- The end of the pages of an image, and each answer on the way to it.
+-- The end of the pages of an image, and each result on the way to it.
 use Rattle.std.specs.Prelude.{◌≡◌, ℕ, ◌<◌, true, List, [], ◌∷◌, ◌++◌, length, Option, Some, None}
 use Rattle.definitions.specs.Disk.{Content, HasRisen}
 use Rattle.image_walk.specs.Names.{Name, answer_of, is_unread, AreReadFrom, IsReading}
@@ -22,7 +22,8 @@ pub record IsEnded (content : Option Content) (blocks header before now : ℕ) (
   pub clean : IsClean content start history
   pub pages : pages_in history ≡ given
 
--- These pages were read, and nothing was wrong. Then comes the first name with findings, and just these are told.
+-- These pages were read, and nothing was wrong. The next name is the first with findings, and exactly these are
+-- reported.
 pub record IsRefused (content : Option Content) (blocks header before now : ℕ) (old new : Told)
     (given : List (List ℕ)) : Type 0 where
   pub start : Start
@@ -37,8 +38,8 @@ pub record IsRefused (content : Option Content) (blocks header before now : ℕ)
   pub told : Tells (name_findings start.format history name) old new
   pub unread : is_unread (answer_of name) ≡ true → HasRisen before now
 
--- What an answer says, where these pages were given before: the page is the next one of the stream; at the end they
--- are all of it.
+-- What each result says, after these pages were given: the page is the next one of the stream; at the end all of its
+-- pages were given.
 abbrev pub Says : Option Content → (blocks header before now : ℕ) → Told → Told → List (List ℕ) → (p q : Pages) →
     List ℕ → Next → Type 0
 Says content blocks header before now old new given p q page Page =
@@ -49,7 +50,7 @@ Says content blocks header before now old new given p q page End =
 Says content blocks header before now old new given p q page Refused =
     IsRefused content blocks header before now old new given
 
--- a step on the way to an answer gives nothing
+-- a step on the way to a result gives no page
 abbrev pub Reads : Option Content → (blocks header before now : ℕ) → Told → Told → List (List ℕ) → (p q : Pages) →
     List ℕ → Option Next → Type 0
 Reads content blocks header before now old new given p q page None =

@@ -1,4 +1,4 @@
--- Pages of which some were given.
+-- The state of `Pages` after some pages were given.
 use Rattle.std.specs.Prelude.{◌≡◌, ℕ, List, Option}
 use Rattle.definitions.specs.Disk.{Content}
 use Rattle.image_walk.specs.Names.{Name}
@@ -7,7 +7,7 @@ use Rattle.image_check.specs.Knows.{Knows}
 use Rattle.image_pages.specs.Clean.{Start, IsStart, IsClean, pages_in}
 use Rattle.image_pages.specs.declared.pages.Pages.{Pages}
 
--- Nothing is wrong with the image so far, whose header lies in a block, and these are its pages that were read.
+-- Nothing is wrong so far with the image that has this header block, and these of its pages were read.
 pub record Stands (content : Option Content) (blocks header : ℕ) (p : Pages) (given : List (List ℕ)) : Type 0 where
   pub start : Start
   pub history : List Name

@@ -1,4 +1,4 @@
--- What is given of a block that was named.
+-- The result for a block that was named.
 use Rattle.std.specs.Prelude.{Option, Some, None, Ok, Err}
 use Rattle.image_walk.specs.declared.visit.Visit.{Visit}
 use Rattle.image_walk.specs.declared.visit.Visit.TheVariants as visit

@@ -1,4 +1,4 @@
-//! What is accepted without a finding.
+//! Parts of an image that are accepted if they have no finding.
 ghost use Rattle.std.specs.Prelude.{◌≡◌, ◌∷◌, List, true};
 ghost use Rattle.image_walk.specs.Names.{Name};
 ghost use Rattle.image_walk.specs.Walking.{IsPlaced, name_of};
@@ -13,7 +13,7 @@ use image_check::{Progress, Report, check_header, check_info, check_name};
 use image_walk::Visit;
 use page_core::{Format, Page};
 
-/// Whether nothing is wrong with a header block that has this mark's flags. What is wrong is told.
+/// Returns whether nothing is wrong with a header block whose mark has these flags, and reports what is.
 pub fn accept_header<R: Report>(
     report: &mut R,
     blocks: u32,
@@ -33,7 +33,7 @@ pub fn accept_header<R: Report>(
     false
 }
 
-/// Whether nothing is wrong with an info page. What is wrong is told.
+/// Returns whether nothing is wrong with an info page, and reports what is.
 pub fn accept_info<R: Report>(report: &mut R, format: Format, page: &Page) -> bool
     ensures { Accepts (info_findings format page.now) (R.told report.old) (R.told report.new) result }
 {
@@ -46,7 +46,7 @@ pub fn accept_info<R: Report>(report: &mut R, format: Format, page: &Page) -> bo
     false
 }
 
-/// Whether nothing is wrong with a name that follows those that led to `progress`. What is wrong is told.
+/// Returns whether nothing is wrong with a name that follows those that led to `progress`, and reports what is.
 pub(crate) fn accept_name<R: Report>(
     report: &mut R,
     format: Format,

@@ -10,8 +10,8 @@ use sig_header::AreaKind;
 use std::alloc::Global;
 
 /// The pages of the stream of an image in an area: the info page, the pages of page frame numbers and the data pages,
-/// one after another, up to the first block that is named and has findings. It takes memory of a bit for each block of
-/// the disk.
+/// one after another, up to the first named block that has findings. It takes memory of one bit for each block of the
+/// disk.
 #[derive(Drop)]
 pub struct Pages {
     walker: Walker,
@@ -19,12 +19,12 @@ pub struct Pages {
     progress: Progress,
 }
 
-/// What there was to open.
+/// The result of opening an image.
 #[derive(Drop)]
 pub enum Opened {
     /// The header block, if the disk has it, isn't marked.
     NoImage,
-    /// The findings of the header block were told.
+    /// The header block has findings, which were reported.
     Refused,
     Open(Pages),
 }
@@ -35,7 +35,7 @@ pub enum Next {
     Page,
     /// All of the image was read, and it has no finding.
     End,
-    /// The findings of the first block that is named and has some were told.
+    /// The first named block with findings was reached; they were reported.
     Refused,
 }
 
@@ -47,7 +47,7 @@ impl Pages {
     ghost use Rattle.image_pages.specs.Opens.{Opens};
     ghost use Rattle.image_pages.specs.Stands.{Stands};
 
-    /// Opens the image of the area whose header lies in a block, by that block alone.
+    /// Opens the image of the area whose header lies in block `header`, reading only that block.
     pub fn open<D: Disk, R: Report>(
         alloc: Global,
         disk: &mut D,
@@ -89,9 +89,9 @@ impl Pages {
         }))
     }
 
-    /// Reads the next page of the image, and passes over its maps. It isn't called again after an end or a refusal.
-    /// The pages that were given are the first ones of the stream that the chain of the disk names; an end says that
-    /// they are all, and that a whole reading of the image has no finding.
+    /// Reads the next page of the image, passing over its maps. After an end or a refusal it isn't called again. The
+    /// pages that were given are the first ones of the stream that the chain of the disk names; an end says that they
+    /// are all, and that a whole reading of the image has no finding.
     pub fn next<D: Disk, R: Report>(
         &mut self,
         disk: &mut D,
@@ -117,7 +117,7 @@ impl Pages {
         }
     }
 
-    /// Reads the next block that is named. Goes on where that is no page of the image, and nothing is wrong.
+    /// Reads the next named block. Returns `None` if that isn't a page of the image and nothing is wrong with it.
     fn read_name<D: Disk, R: Report>(
         &mut self,
         disk: &mut D,
@@ -145,7 +145,7 @@ impl Pages {
         page_seen(&visit)
     }
 
-    /// The same pages once more: what comes next of each is read by itself.
+    /// Copies the reader: each copy continues independently.
     pub fn fork(&self) -> Result<Pages, NoMemory>
         ensures stands { IfOk result (λ p. (content : Option Content) (blocks header : ℕ) (given : List (List ℕ)) →
             Stands content blocks header self.now given → Stands content blocks header p given) }
@@ -158,14 +158,14 @@ impl Pages {
         })
     }
 
-    /// How the image saves pages of zeros.
+    /// Returns how the image saves pages of zeros.
     pub fn format(&self) -> Format
         ensures { result ≡ self.now.format }
     {
         self.format
     }
 
-    /// What the info page says, once it was given.
+    /// Returns what the info page says, once it was given.
     pub fn counts(&self) -> Option<Counts>
         ensures { (content : Option Content) (blocks header : ℕ) (given : List (List ℕ)) →
             Stands content blocks header self.now given → result ≡ counts_by given }
@@ -174,7 +174,7 @@ impl Pages {
     }
 }
 
-/// The page that an entry named, if it was read.
+/// Returns the result for a page that an entry named, if it was read.
 fn page_seen(visit: &Visit) -> Option<Next>
     ensures { result ≡ page_seen visit.now }
 {

@@ -1,4 +1,4 @@
--- What a reader answers over a disk.
+-- What a step of a reader returns, over a disk.
 use Rattle.std.specs.Prelude.{◌≡◌, ◌<◌, ℕ, ◌+◌, List, Option, Some, None, Result, Ok, Err, is_none, if◌then◌else◌}
 use Rattle.definitions.specs.Disk as disk
 use Rattle.definitions.specs.declared.info.Ident.{Ident}
@@ -19,19 +19,19 @@ abbrev pub Compares : Hardware → IdentCheck → Option Ident → Type 0
 Compares h Compare own = own ≡ Some h.ident
 Compares h Skip own = own ≡ None
 
--- the disk tells that it reads like v, but for block(0)
+-- the disk tells its content and reads like v, except for block(0)
 abbrev pub Reads : Hardware → disk.DiskImage → Option disk.Content → Type 0
 Reads h v None = ⊥
 Reads h v (Some held) =
     (b : ℕ) → b < blocks_of v → (b ≡ block_of_slot h 0 → ⊥) → disk.block (disk.as_it_reads held) b ≡ disk.block v b
 
--- n, told from the last number page on, also where the block that is wanted next is at fault
+-- n, known from the last number page on, even if the block that is wanted next is at fault
 abbrev pub told_after : Hardware → disk.DiskImage → IdentCheck → ℕ → Option ℕ
 told_after h v check t =
     if is_none (read_cause h v check (place t)) then told h v (pages_read (t + 1)) else told h v (pages_read t)
 
--- What place t gives: the first cause of that place or of the next block, or else a page frame where its page is there.
--- Where n is told with a cause, the sets are those of all the numbers.
+-- What place t gives: the first cause of that place or of the next block, or else a page frame if its page is there. If
+-- n is told with a cause, the sets are those of all the numbers.
 abbrev pub Gives : Hardware → disk.DiskImage → IdentCheck → ℕ → Result (Option ℕ) Cause → Reading → List ℕ → List ℕ →
     Type 0
 Gives h v check t (Err cause) new origs zeros =
@@ -41,8 +41,8 @@ Gives h v check t (Ok frame) new origs zeros =
     (cause_with h v check None t ≡ None) × HasReadPlaces h v check new (t + 1) origs zeros
     × (frame ≡ frame_at h v (place t))
 
--- What the step that reads place t answers, and leaves: the first cause of that place or of the next block, and the
--- sets where n is told with it, or else the page of a page frame, or how many steps were made.
+-- What the step that reads place t returns, and leaves: the first cause of that place or of the next block, and the
+-- sets if n is told with it; or else the page of a page frame, or how many steps were made.
 abbrev pub Answers : Hardware → disk.DiskImage → IdentCheck → ℕ → ReadStep → Reading → Reading → List ℕ → List ℕ →
     List ℕ → Type 0
 Answers h v check t (Refused cause) old new origs zeros page =

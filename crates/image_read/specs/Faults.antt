@@ -35,7 +35,7 @@ named_fault r t =
     then (if map_link r.map.page == 0 then Some (ChainEnds r.map.map) else block_fault r (map_link r.map.page))
     else block_fault r (map_entry r.map.page (t % 512 - 1))
 
--- what a map page told: a block, or that there is none
+-- what a map page says: a block, or that there is none
 abbrev pub chain_fault : Reading → Result ℕ ChainFault → Option Cause
 chain_fault r (Ok block) = block_fault r block
 chain_fault r (Err (chain.BadBlock block)) = block_fault r block
@@ -67,7 +67,7 @@ unfoldable pub info_fault : Option Ident → ℕ → Format → Info → Option 
 info_fault own valid format info =
     or_else (identity_fault own info) (or_else (size_fault valid info) (counts_fault valid format info))
 
--- after the last number, of which so many have no data page
+-- after the last number, given how many of them have no data page
 abbrev pub pages_fault : ℕ → ℕ → ℕ → Option Cause
 pages_fault saved pages zeros =
     if pages == saved - zeros + meta_of saved + 1 then None else Some (BadCounts saved pages)

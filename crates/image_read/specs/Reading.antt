@@ -6,9 +6,9 @@ use Rattle.pfn_pack.specs.Unpacked.{Unpacked, IsUpTo}
 use Rattle.swap_map.specs.MapPages.{NumberedPage}
 use Rattle.plain_machine.specs.Trace.{place_count}
 
--- The slots on the blocks of the disk (extents, the last slot, how many blocks), the format, how many blocks were read,
--- the block that is next, the map that the entries are taken from, how many pages the stream has and how many page
--- frames were saved (1 and 0 until the info page tells it), the number pages, n once all numbers are accepted, and a
+-- The slots on the blocks of the disk (extents, the last slot, the number of blocks), the format, the number of blocks
+-- read, the block to read next, the map that the entries are taken from, the numbers of pages of the stream and of
+-- saved page frames (1 and 0 until the info page gives them), the number pages, n once all numbers are accepted, and a
 -- page frame below which no page is still to come.
 pub record Reading : Type 0 where
   pub extents : List (ℕ × ℕ × ℕ)
@@ -45,12 +45,12 @@ pub record IsReady (r : Reading) (origs zeros : List ℕ) : Type 0 where
   pub listed_up : IsUpTo r.numbers.last origs
   pub marked_up : IsUpTo r.numbers.last zeros
 
--- a stream has so many pages at most: 65536 saved ones, their number pages and the info page
+-- the most pages that a stream has: 65536 saved ones, their number pages and the info page
 pub record IsShort (pages : ℕ) : Type 0 where
   pub some : 1 ≤ pages
   pub few : pages ≤ 65665
 
--- an image of at most so many page frames, but one at least
+-- an image of at least one page frame and at most `valid`
 pub record FitsIn (valid : ℕ) (info : Info) : Type 0 where
   pub some : 0 < info.image_pages
   pub few : info.image_pages ≤ valid

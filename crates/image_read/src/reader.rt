@@ -38,7 +38,7 @@ pub struct Expected<'a> {
     pub ident: Option<&'a Ident>,
 }
 
-/// What a step of a reader answers.
+/// What a step of a reader returns.
 #[derive(Clone, Copy)]
 pub enum ReadStep {
     /// A map, the info page or a number page was read. `k` steps were made.
@@ -64,9 +64,9 @@ pub struct Reader {
     block: u32,
     /// The map that the entries are taken from.
     map: MapReader,
-    /// How many pages the stream has; 1 until the info page tells it.
+    /// The number of pages of the stream; 1 until the info page gives it.
     pages: u32,
-    /// How many page frames were saved; 0 until the info page tells it.
+    /// The number of page frames that were saved; 0 until the info page gives it.
     saved: u32,
     numbers: Unpack,
     listed: Option<u32>,
@@ -100,7 +100,7 @@ impl Reader {
     ghost use Rattle.image_read.specs.declared.cause.Cause.{Cause};
 
     /// Begins with the fields of the header block: `first` is the block of the first map, `last` the last slot. The
-    /// disk has so many blocks. It keeps a copy of the file map.
+    /// disk has `blocks` blocks. The reader keeps a copy of the file map.
     pub fn begin(
         first: u64,
         map: &FileMap,
@@ -161,8 +161,8 @@ impl Reader {
     }
 
     /// Reads the next block. A number page's page frames go into `origs`, and those without a data page into `zeros`
-    /// too. A data page is in `page` then. Where the wanted next block is refused and `listed` tells a count, the sets
-    /// hold all the page frames of the image, so room for its pages can be planned.
+    /// too. A data page is left in `page`. If the next block is refused and `listed` returns a count, the sets hold all
+    /// the page frames of the image, so room for its pages can be planned.
     pub fn step<D: Disk>(
         &mut self,
         disk: &mut D,
@@ -212,7 +212,7 @@ impl Reader {
         self.pages + self.pages.div_ceil(MAP_ENTRIES)
     }
 
-    /// Takes the block that was read, and finds the next one. Tells the page frame whose page it is.
+    /// Accepts the block just read and finds the next. Returns its page frame, if it is a saved page.
     fn take(
         &mut self,
         page: &Page,
@@ -319,7 +319,7 @@ impl Reader {
         Ok(())
     }
 
-    /// Whether there are as many pages as the numbers say, where so many of them have no data page.
+    /// Tests whether there are as many pages as the numbers say, given how many of them have no data page.
     fn test_listed(&self, zeros: u32) -> Result<(), Cause>
         requires { self.now.saved ≤ 65536 }
         ensures ok { IsOk result ↔ (pages_fault self.now.saved self.now.pages zeros ≡ None) }
@@ -347,7 +347,7 @@ impl Reader {
         found
     }
 
-    /// Counts the step, and finds the next block, where there is one.
+    /// Counts the step, and finds the next block, if there is one.
     fn advance(&mut self) -> Result<(), Cause>
         requires { self.old.steps < place_count self.old.pages }
         ensures advances { Advances self.old result self.new }

@@ -23,7 +23,7 @@ abbrev pub HasMore : List (List ℕ) → Type 0
 HasMore [] = ⊤
 HasMore (info ∷ rest) = length (info ∷ rest) < (counts_in info).pages
 
--- the next page was read, or the first name with findings refused
+-- the next page was read, or the reading was refused at the first name with findings
 abbrev pub GivesOne : Option Content → (blocks header before now : ℕ) → (told then : Told) → List (List ℕ) → Pages →
     List ℕ → Bool → Type 0
 GivesOne content blocks header before now told then given q page true =
@@ -31,7 +31,7 @@ GivesOne content blocks header before now told then given q page true =
 GivesOne content blocks header before now told then given q page false =
     IsRefused content blocks header before now told then given
 
--- so many pages more were read, of which this is the last
+-- the given number of further pages was read, and this is the last of them
 pub record HasRead (content : Option Content) (blocks header : ℕ) (given : List (List ℕ)) (q : Pages) (page : List ℕ)
     (count : ℕ) : Type 0 where
   pub more : List (List ℕ)
@@ -46,7 +46,7 @@ GivesMore content blocks header before now told then given q page count true =
 GivesMore content blocks header before now told then given q page count false =
     (pages : List (List ℕ)) × IsRefused content blocks header before now told then pages
 
--- the info page was read, and no more, and the image has its number pages
+-- only the info page was read, and the image has its number pages
 pub record HasInfo (content : Option Content) (blocks header : ℕ) (p : Pages) (counts : Counts)
     (info : List ℕ) : Type 0 where
   pub stands : Stands content blocks header p (info ∷ [])
@@ -60,23 +60,23 @@ listed pages i = word (page_at pages (i / 512)) (i % 512)
 abbrev pub listed_data : Format → List (List ℕ) → ℕ → ℕ
 listed_data format pages i = count_by (λ j. has_page format (listed pages j)) (range_with_len 0 i)
 
--- so many of the first words of a page have one
+-- how many of the first i words of a page have a data page
 abbrev pub data_words : Format → List ℕ → ℕ → ℕ
 data_words format page i = count_by (λ j. has_page format (word page j)) (range_with_len 0 i)
 
--- word i, in the last of these number pages, is that of the page frame
+-- word i, on the last of these number pages, is that of the page frame
 pub record IsListed (format : Format) (pages : List (List ℕ)) (n frame : ℕ) : Type 0 where
   pub index : ℕ
   pub inside : index < n
   pub newest : length pages ≡ index / 512 + 1
   pub number : frame_of format (listed pages index) ≡ frame
 
--- it has no data page
+-- the page frame has no data page
 pub record IsMarked (format : Format) (pages : List (List ℕ)) (n frame : ℕ) : Type 0 where
   pub at : IsListed format pages n frame
   pub marked : has_page format (listed pages at.index) ≡ false
 
--- it has one, after so many more number pages, and it is that one of the data pages, from 1
+-- the page frame has a data page: `lists` more number pages come first, then it is data page `wanted`, counted from 1
 pub record IsAhead (format : Format) (pages : List (List ℕ)) (n frame lists wanted : ℕ) : Type 0 where
   pub at : IsListed format pages n frame
   pub has : has_page format (listed pages at.index) ≡ true
@@ -84,7 +84,7 @@ pub record IsAhead (format : Format) (pages : List (List ℕ)) (n frame lists wa
   pub count : wanted ≡ listed_data format pages at.index + 1
   pub small : n ≤ last_count
 
--- what a search among the number pages has come to
+-- the result of a search on the number pages
 abbrev pub Seeks : Option Content → (blocks header before now : ℕ) → (told then : Told) → Format → Counts → List ℕ →
     ℕ → Pages → Search → Type 0
 Seeks content blocks header before now told then format counts info frame q search.Refused =
@@ -100,7 +100,7 @@ Seeks content blocks header before now told then format counts info frame q (sea
     (then ≡ told) × ((pages : List (List ℕ)) × (Stands content blocks header q (info ∷ pages)
     × IsAhead format pages counts.image_pages frame lists wanted))
 
--- the same for word i of the newest page, before which there are so many data pages
+-- the same for word i of the newest page; the number pages before it have `earlier` data pages
 abbrev pub SeeksAt : Format → List ℕ → (i lists earlier : ℕ) → Search → Type 0
 SeeksAt format page i lists earlier search.Refused = ⊥
 SeeksAt format page i lists earlier search.Nowhere = ⊥

@@ -8,16 +8,16 @@ use Rattle.sig_header.specs.declared.area.Mark.{Mark}
 use Rattle.image_check.specs.Checked.{format_of, mark_in}
 use Rattle.image_pages.specs.Clean.{Start, IsStart}
 
--- nothing is wrong with the header block, and by its flags the image saves pages of zeros so
+-- nothing is wrong with the header block, and its flags say that the image saves pages of zeros this way
 abbrev pub SavesThere : Format → Option Content → (blocks header : ℕ) → Type 0
 SavesThere format content blocks header =
     (start : Start) × IsStart content blocks header start × (start.format ≡ format)
 
--- by the flags of a mark; where there is none, there is no image either
+-- the format by the flags of a mark; without a mark there is no image either
 abbrev pub format_marked : Option Mark → Format
 format_marked None = Plain
 format_marked (Some mark) = format_of mark.flags
 
--- by the header block of an area, as the disk reads
+-- the format by the header block of an area, as the disk reads
 abbrev pub chain_format : DiskImage → ℕ → Format
 chain_format v header = format_marked (mark_in (area_kind (block v header)))

@@ -17,7 +17,8 @@ use Rattle.image_saved.specs.declared.finding.Found.TheVariants.{NoImage, Refuse
 abbrev pub page_at : List (List ℕ) → ℕ → List ℕ
 page_at pages k = slice_index_or pages k []
 
--- The page is that of the page frame by the pages that were read, up to the one that tells it, and so by the chain.
+-- By the pages that were read, up to the one that decides it, and also by the chain, this is the page of the page
+-- frame.
 pub record IsPageThere (content : Option Content) (blocks header frame : ℕ) (page : List ℕ) : Type 0 where
   pub format : Format
   pub saves : SavesThere format content blocks header
@@ -28,7 +29,7 @@ pub record IsPageThere (content : Option Content) (blocks header frame : ℕ) (p
   pub chain : IfSome content (λ held.
       IsSaved (chain_format (as_it_reads held) header) (chain_page (as_it_reads held) header) frame page)
 
--- The number pages were read, and no more, and none has the number of the page frame: so it is by the chain.
+-- The image was read up to its last number page, and no number is that of the page frame, nor is any in the chain.
 pub record IsNoneThere (content : Option Content) (blocks header frame : ℕ) : Type 0 where
   pub format : Format
   pub saves : SavesThere format content blocks header

@@ -1,5 +1,5 @@
--- The saved pages of an image, by the pages of its stream: page 0 is the info page, and after the pages of page frame
--- numbers lie the data pages in the same order (snapshot_read_next, kernel/power/snapshot.c). Where pages of zeros are
+-- The saved pages of an image, by the pages of its stream: page 0 is the info page, and the pages of page frame numbers
+-- are followed by the data pages in the same order (snapshot_read_next, kernel/power/snapshot.c). If pages of zeros are
 -- skipped (this project's own format), bit 63 of a number says that the page is zeros and has no data page.
 use Rattle.std.specs.Prelude.{◌≡◌, ◌≢◌, ℕ, ◌+◌, ◌/◌, ◌%◌, ◌<◌, Bool, true, nat_lt, List, if◌then◌else◌, count_by}
 use Rattle.std.specs.List.{range_with_len}
@@ -33,14 +33,14 @@ has_data format at i = has_page format (word_in at i)
 abbrev pub data_before : Format → (ℕ → List ℕ) → ℕ → ℕ
 data_before format at i = count_by (has_data format at) (range_with_len 0 i)
 
--- where its data page lies, if it has one, and its page
+-- the place of its data page, if it has one, and its page
 abbrev pub place_in : Format → (ℕ → List ℕ) → ℕ → ℕ
 place_in format at i = 1 + meta_of (count_in at) + data_before format at i
 
 abbrev pub page_in : Format → (ℕ → List ℕ) → ℕ → List ℕ
 page_in format at i = if has_data format at i then at (place_in format at i) else zero_page
 
--- the last page that tells its page: its data page, or where it has none the page of its number
+-- the last page needed for its contents: its data page, or, if it has none, the page of its number
 abbrev pub told_at : Format → (ℕ → List ℕ) → ℕ → ℕ
 told_at format at i = if has_data format at i then place_in format at i else 1 + i / 512
 

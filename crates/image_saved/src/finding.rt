@@ -14,32 +14,32 @@ use std::alloc::Global;
 /// How many numbers a page of page frame numbers has.
 const NUMBERS: u64 = 512;
 
-/// What became of the page of a page frame.
+/// The result of looking for the page of a page frame.
 #[derive(Clone, Copy, Debug, PartialEq, Eq)]
 pub enum Found {
     /// The header block, if the disk has it, isn't marked.
     NoImage,
-    /// The findings of the header block, or of the first block that is named and has some, were told.
+    /// The header block, or the first named block that has findings, was refused; the findings were reported.
     Refused,
     /// The page frame wasn't saved.
     NoPage,
     Page,
 }
 
-/// Where the number of a page frame stands.
+/// The result of looking for the number of a page frame.
 #[derive(Clone, Copy)]
 enum Search {
     Refused,
     Nowhere,
-    /// In the number page that was read last, and its page is zeros.
+    /// The number is on the number page that was read last, and the page is zeros.
     Zeros,
-    /// There too, and so many number pages come after it; then it is that one of the data pages, from 1.
+    /// The number is there too, `lists` number pages come after that page, and the page is data page `wanted`, from 1.
     Ahead { lists: u64, wanted: u64 },
 }
 
-/// Reads the saved page of a page frame in the image of the area whose header lies in a block. The image is read up to
-/// its data page, or where it has none to the page of its number, or to the last number page where no number is that of
-/// the page frame.
+/// Reads the saved page of a page frame in the image of the area whose header lies in block `header`. The image is read
+/// up to the data page, or, if the page frame has none, up to the page of its number, or, if it wasn't saved, up to the
+/// last number page.
 pub fn page_of<D: Disk, R: Report>(
     alloc: Global,
     disk: &mut D,
@@ -63,7 +63,7 @@ pub fn page_of<D: Disk, R: Report>(
     }
 }
 
-/// Reads the page of a page frame in an image of which nothing was read.
+/// Reads the page of a page frame in an image of which nothing was read yet.
 fn find<D: Disk, R: Report>(
     pages: &mut Pages,
     disk: &mut D,
@@ -97,7 +97,7 @@ fn find<D: Disk, R: Report>(
     }
 }
 
-/// Reads that data page, from 1, before which so many number pages come.
+/// Reads data page `wanted`, counted from 1, after `lists` more number pages.
 fn read_data<D: Disk, R: Report>(
     pages: &mut Pages,
     disk: &mut D,
@@ -166,7 +166,7 @@ fn find_number<D: Disk, R: Report>(
     Search::Nowhere
 }
 
-/// How many of the numbers that are left stand on a page.
+/// Returns how many of the numbers that are left are on a page.
 fn count_on_page(left: u64) -> u64
     ensures few { left ≤ 512 → result ≡ left }
     ensures full { 512 ≤ left → result ≡ 512 }
@@ -176,7 +176,9 @@ fn count_on_page(left: u64) -> u64
     if left < NUMBERS { left } else { NUMBERS }
 }
 
-/// Where the number of word i of a page stands, of which so many number pages come later and so many data pages before.
+/// Returns the search result for word `i` of a page. `lists` number pages follow the page, and the numbers of the pages
+/// before it have `earlier` data pages.
+/// precede.
 fn search_at(page: &Page, format: Format, i: u64, lists: u64, earlier: u64) -> Search
     requires word { i < 512 }
     requires few { earlier + i + 1 < 2 ^ 64 }
@@ -192,7 +194,7 @@ fn search_at(page: &Page, format: Format, i: u64, lists: u64, earlier: u64) -> S
     }
 }
 
-/// Reads so many pages, and answers whether they were all read.
+/// Reads `count` pages, and returns whether all were read.
 pub fn read_ahead<D: Disk, R: Report>(
     pages: &mut Pages,
     disk: &mut D,
@@ -222,7 +224,7 @@ pub fn read_ahead<D: Disk, R: Report>(
     true
 }
 
-/// Reads a page that the image has, and answers whether it was read.
+/// Reads a page that the image has, and returns whether it was read.
 pub fn read_page<D: Disk, R: Report>(
     pages: &mut Pages,
     disk: &mut D,

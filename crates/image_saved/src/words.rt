@@ -7,10 +7,10 @@ ghost use Rattle.image_saved.specs.Saved.{has_page};
 
 use page_core::{Format, Page};
 
-/// The bit of a number whose page is zeros and has no data page (own).
+/// The bit of a number whose page is zeros and has no data page (this project's own).
 const ZERO_BIT: u64 = 1 << 63;
 
-/// The page frame number of a word.
+/// Returns the page frame number of a word.
 pub fn frame_of(format: Format, word: u64) -> u64
     ensures { result ≡ frame_of format word }
 {
@@ -20,7 +20,7 @@ pub fn frame_of(format: Format, word: u64) -> u64
     }
 }
 
-/// Whether the page of a word is a data page.
+/// Returns whether the page of a word is a data page.
 pub fn has_page(format: Format, word: u64) -> bool
     ensures { result ≡ has_page format word }
 {
@@ -30,7 +30,7 @@ pub fn has_page(format: Format, word: u64) -> bool
     }
 }
 
-/// Which of the first words of a page, at most 512, has a page frame number.
+/// Returns the index of the word that has page frame number `number`, among the first `count`, at most 512, of a page.
 pub(crate) fn find_word(page: &Page, format: Format, count: u64, number: u64) -> Option<u64>
     requires { count ≤ 512 }
     ensures found { IfSome result (λ i. (i < count) × (frame_of format (word page.now i) ≡ number)) }
@@ -44,7 +44,7 @@ pub(crate) fn find_word(page: &Page, format: Format, count: u64, number: u64) ->
     None
 }
 
-/// How many of the first words of a page, at most 512, have a data page.
+/// Returns how many of the first `count` words of a page, at most 512, have a data page.
 pub(crate) fn data_words(page: &Page, format: Format, count: u64) -> u64
     requires { count ≤ 512 }
     ensures dense { result ≡ data_words format page.now count }

@@ -1,4 +1,4 @@
--- What a part of an image adds to what is shown.
+-- What a part of an image adds to the facts that are shown.
 use Rattle.std.specs.Prelude.{ℕ, ◌-◌, List, [], ◌++◌, map, min, Option, Some, None}
 use Rattle.definitions.specs.Bytes.{number_at}
 use Rattle.image_facts.specs.InfoFacts.{info_facts}
@@ -22,12 +22,12 @@ maps_after maps (part.Map now b) = now
 maps_after maps (part.Info b) = maps
 maps_after maps (part.Page b) = maps
 
--- these numbers come after others, and these runs have ended
+-- these numbers follow others, and these runs have ended
 abbrev pub RunsOn : Option (ℕ × ℕ) → Option (ℕ × ℕ) → List ℕ → List (ℕ × ℕ) → Type 0
 RunsOn old new more runs = (numbers : List ℕ) (ended : List (ℕ × ℕ)) → IsUpTo numbers old ended → IsUpTo (numbers
     ++ more) new (ended ++ runs)
 
--- how many page frame numbers follow, once it is known, and how many a part has
+-- how many page frame numbers follow, once that is known, and how many of them a part has
 abbrev pub rest_of : Option ℕ → ℕ
 rest_of None = 0
 rest_of (Some n) = n

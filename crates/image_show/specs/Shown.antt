@@ -19,23 +19,23 @@ use Rattle.image_facts.specs.declared.fact.Fact.TheVariants as fact
 use Rattle.image_show.specs.declared.shown.Shown.{Shown}
 use Rattle.image_show.specs.declared.shown.Shown.TheVariants.{Area, NoHeader}
 
--- the runs of some numbers that more may follow: the last run may go on
+-- the complete runs of some numbers that more may follow: the last run may go on
 abbrev pub but_last : List (ℕ × ℕ) → List (ℕ × ℕ)
 but_last runs = take (length runs - 1) runs
 
--- what is shown of the names of a history: its info page, the runs of its blocks, and how many maps it has; `whole`
--- says that it has ended
+-- the facts of the names of a history: its info page, the runs of its blocks, and how many maps it has; `whole` says
+-- that it has ended
 abbrev pub block_facts : (whole : Bool) → List Name → List Fact
 block_facts false h = facts_of_first (pages_in h) ++ map block_run (but_last (runs_of (blocks_in h)))
 block_facts true h = facts_of_first (pages_in h) ++ (map block_run (runs_of (blocks_in h)) ++ fact.Maps (maps_in h)
     ∷ [])
 
--- and of its page frame numbers: of all, or of the first n
+-- the facts of its page frame numbers: of all, or of the first n
 abbrev pub frame_facts : (whole : Bool) → ℕ → List ℕ → List Fact
 frame_facts false n frames = map frame_run (but_last (runs_of (take n frames)))
 frame_facts true n frames = map frame_run (runs_of frames)
 
--- The blocks of an image are shown in one reading of it, to the last page or as far as it goes.
+-- The blocks of an image are shown in one reading of it, to the last page or as far as that goes.
 pub record ShowsBlocks (whole : Bool) (l : Limits) (first : ℕ) (content : Option Content) (before now : ℕ)
     (facts : List Fact) : Type 0 where
   pub names : List Name
@@ -43,7 +43,7 @@ pub record ShowsBlocks (whole : Bool) (l : Limits) (first : ℕ) (content : Opti
   pub end : whole ≡ true → IsEnd l first content before now names
   pub says : facts ≡ block_facts whole names
 
--- The page frames are shown in another, which needs no more than the number pages.
+-- The page frames are shown in a second reading, which needs only the number pages.
 pub record ShowsFrames (whole : Bool) (l : Limits) (first : ℕ) (content : Option Content) (before now : ℕ)
     (format : Format) (facts : List Fact) : Type 0 where
   pub names : List Name
@@ -52,8 +52,8 @@ pub record ShowsFrames (whole : Bool) (l : Limits) (first : ℕ) (content : Opti
   pub count : ℕ
   pub says : facts ≡ frame_facts whole count (frames_in format names)
 
--- What is shown of an image that isn't compressed: of all its blocks, and then of all its page frames, or as far as
--- that goes.
+-- The facts of an image that isn't compressed: those of all its blocks, and then those of all its page frames, or as
+-- far as that goes.
 pub record ShowsImage (all : Bool) (l : Limits) (first : ℕ) (content : Option Content) (before now : ℕ)
     (format : Format) (facts : List Fact) : Type 0 where
   pub blocks : List Fact
@@ -75,7 +75,7 @@ abbrev pub readable_mark : Option Mark → Option Mark
 readable_mark None = None
 readable_mark (Some mark) = if_plain (is_compressed mark.flags) mark
 
--- what is shown of an image, by that mark; the pages of a compressed image aren't read
+-- the facts of an image, by its mark; the pages of a compressed image aren't read
 abbrev pub ShowsMark : Bool → Option Content → (blocks header before now : ℕ) → List ℕ → List Fact → Option Mark →
     Type 0
 ShowsMark all content blocks header before now page facts None = facts ≡ []
@@ -83,7 +83,7 @@ ShowsMark all content blocks header before now page facts (Some mark) =
     ShowsImage all (limits_of blocks header (area_kind (taken_back page))) mark.first content before now
     (format_of mark.flags) facts
 
--- the header block as the disk reads, and what its mark leads to
+-- the header block as the disk reads, and the facts that its mark leads to
 pub record ShowsHeader (all : Bool) (content : Option Content) (blocks header before now : ℕ)
     (facts : List Fact) : Type 0 where
   pub page : List ℕ
@@ -92,18 +92,18 @@ pub record ShowsHeader (all : Bool) (content : Option Content) (blocks header be
   pub shows_image : ShowsMark all content blocks header before now page image (readable_mark (mark_in (area_kind page)))
   pub says : facts ≡ header_facts blocks page ++ image
 
--- the disk has no header block there, or it couldn't be read
+-- the disk has no such header block, or it couldn't be read
 abbrev pub LacksHeader : (blocks header before now : ℕ) → List Fact → Type 0
 LacksHeader blocks header before now facts =
     ((blocks ≤ header) × (facts ≡ fact.Blocks blocks ∷ fact.HeaderMissing ∷ []))
     ⊎ (HasRisen before now × (facts ≡ fact.Blocks blocks ∷ fact.HeaderUnread ∷ []))
 
--- all that is shown of an area whose header lies in a block
+-- all facts of an area with the given header block
 abbrev pub Shows : Option Content → (blocks header before now : ℕ) → List Fact → Shown → Type 0
 Shows content blocks header before now facts Area = ShowsHeader true content blocks header before now facts
 Shows content blocks header before now facts NoHeader = LacksHeader blocks header before now facts
 
--- no more than that
+-- no more than these facts
 abbrev pub ShowsFront : Option Content → (blocks header before now : ℕ) → List Fact → Type 0
 ShowsFront content blocks header before now facts =
     LacksHeader blocks header before now facts ⊎ ShowsHeader false content blocks header before now facts

@@ -1,4 +1,4 @@
--- The lines of the facts: a key, and its value's numbers or text.
+-- The lines of the facts: a key, and the numbers or the text of its value.
 use Rattle.std.specs.Prelude.{ℕ, Bool, true, false, List, [], ◌∷◌, ◌++◌, None, codes, decimal, flat_map}
 use Rattle.definitions.specs.Bytes.{bytes_at}
 use Rattle.definitions.specs.InfoPage.{text_of_name}
@@ -30,7 +30,7 @@ header_key X86 = codes "x86-64"
 header_key Arm64 = codes "arm64"
 header_key Unknown = codes "unknown"
 
--- a UUID's 16 bytes in order, by their hexadecimal digits
+-- the 16 bytes of a UUID in order, as hexadecimal digits
 abbrev pub uuid_text : List ℕ → List ℕ
 uuid_text bytes =
     codes "uuid " ++ hex_text (bytes_at 4 bytes 0) ++ codes "-" ++ hex_text (bytes_at 2 bytes 4) ++ codes "-"
@@ -40,7 +40,7 @@ uuid_text bytes =
 abbrev pub kernel_text : (a b c : ℕ) → List ℕ
 kernel_text a b c = codes "kernel " ++ decimal a ++ codes "." ++ decimal b ++ codes "." ++ decimal c
 
--- a fact, without the end of its line
+-- the text of a fact, without the end of its line
 abbrev pub fact_text : Fact → List ℕ
 fact_text (fact.Blocks n) = numbers_text (codes "blocks") (n ∷ [])
 fact_text fact.HeaderMissing = codes "header missing"
@@ -83,7 +83,7 @@ fact_text (fact.FrameRun start count) = numbers_text (codes "frame_run") (start 
 abbrev pub line_text : Fact → List ℕ
 line_text f = fact_text f ++ codes "\n"
 
--- these facts, a line each
+-- these facts, one per line
 abbrev pub text_of : List Fact → List ℕ
 text_of facts = flat_map line_text facts
 

@@ -18,10 +18,10 @@ use sector_disk::Disk;
 use sig_header::{AreaKind, Mark};
 use std::alloc::Global;
 
-/// Prints what is written in the area whose header lies in a block, a fact a line, and, where it has an image that
-/// isn't compressed, what that says and names. It reads as far as the bytes allow: a block that can't be one of the
-/// image, or can't be read, ends what is told. The image is read twice, the second time to its last number page.
-/// Nothing is flushed. It takes memory of two bits for each block of the disk.
+/// Prints what is written in the area whose header lies in block `header`, one fact per line, and, if it has an image
+/// that isn't compressed, what that image says and names. It reads as far as the bytes allow: a block that can't be one
+/// of the image, or can't be read, ends the output. The image is read twice, the second time up to its last number
+/// page. Nothing is flushed. It takes memory of two bits for each block of the disk.
 pub fn show<D: Disk, F: Form>(
     alloc: Global,
     disk: &mut D,
@@ -32,7 +32,7 @@ pub fn show<D: Disk, F: Form>(
         × (Shows (D.content disk.old) (D.block_count disk.old) header
         (D.faults disk.old) (D.faults disk.new) facts shown
         × Puts F.style facts (F.written form.old) (F.written form.new))) }
-    // Where a write failed a front of such a text was taken.
+    // If a write failed, a prefix of such a text was written.
     ensures front { result ≡ Err Write → (facts : List OneFact)
         × (ShowsFront (D.content disk.old) (D.block_count disk.old) header
         (D.faults disk.old) (D.faults disk.new) facts
@@ -60,7 +60,7 @@ pub fn show<D: Disk, F: Form>(
     Ok(Shown::Area)
 }
 
-/// Prints what a header block says, and its image where that isn't compressed.
+/// Prints what a header block says, and its image if that isn't compressed.
 fn show_header<D: Disk, F: Form>(
     alloc: Global,
     form: &mut F,
@@ -90,7 +90,7 @@ fn show_header<D: Disk, F: Form>(
     }
 }
 
-/// The mark of an image that isn't compressed.
+/// Returns the mark of an image that isn't compressed.
 fn readable_mark(kind: AreaKind) -> Option<Mark>
     ensures { result ≡ readable_mark (mark_in kind) }
 {

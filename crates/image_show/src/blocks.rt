@@ -51,7 +51,7 @@ pub(crate) fn print_blocks<D: Disk, F: Form>(
     print_end(form, runs.last(), maps)
 }
 
-/// How many maps there are with a part.
+/// Returns how many maps there are after a part.
 fn maps_after(maps: u64, part: Part) -> u64
     ensures { result ≡ maps_after maps part }
 {
@@ -62,7 +62,7 @@ fn maps_after(maps: u64, part: Part) -> u64
     }
 }
 
-/// Prints what a part says, and the run that has ended before it.
+/// Prints what a part says, after the run that has ended before it.
 fn print_part<F: Form>(
     form: &mut F,
     part: Part,

@@ -12,10 +12,10 @@ pub trait Form {
     /// What was printed so far.
     ghost written: { Self → Written };
 
-    /// How often the output has failed. It never falls, and stays at 2^64-1.
+    /// How often the output has failed. The count never falls, and saturates at 2^64-1.
     ghost faults: { Self → ℕ };
 
-    /// Memory was refused.
+    /// Whether memory was refused.
     ghost refused: { Self → Bool };
 
     /// Prints a fact after those before it.

@@ -17,17 +17,17 @@ use image_facts::{Fact, Part, Reading, Runs};
 use page_core::{Failed, Format, Page};
 use sector_disk::Disk;
 
-/// How many words a page has.
+/// The number of words of a page.
 const WORDS: u64 = 512;
 
-/// The word of an info page that tells how many page frames were saved (`image_pages`, `struct swsusp_info`,
+/// The index of the info page's word that says how many page frames were saved (`image_pages`, `struct swsusp_info`,
 /// kernel/power/power.h).
 const IMAGE_PAGES_WORD: usize = 52;
 
-/// The bit of a page of zeros that has no data page (own).
+/// The bit that marks a page of zeros without a data page (this project's own).
 const ZERO_BIT: u64 = 1 << 63;
 
-/// Prints the runs of page frames as they end. It reads no more than the number pages.
+/// Prints the runs of page frames as they end. It reads only the number pages.
 pub(crate) fn print_frames<D: Disk, F: Form>(
     form: &mut F,
     disk: &mut D,
@@ -62,7 +62,7 @@ pub(crate) fn print_frames<D: Disk, F: Form>(
     print_any(form, frame_run(runs.last()))
 }
 
-/// Goes on to the next block, unless no number is left.
+/// Continues with the next block, unless no number is left.
 fn next_part<D: Disk>(
     reading: &mut Reading,
     disk: &mut D,
@@ -87,7 +87,7 @@ fn next_part<D: Disk>(
     reading.next(disk, page)
 }
 
-/// How many numbers a part has.
+/// Returns how many numbers a part has.
 fn numbers_in_part(left: Option<u64>, part: Part) -> u64
     ensures count { result ≡ numbers_in_part left part }
     ensures few { result ≤ 512 }
@@ -100,7 +100,7 @@ fn numbers_in_part(left: Option<u64>, part: Part) -> u64
     }
 }
 
-/// How many numbers are left after a part.
+/// Returns how many numbers are left after a part.
 fn left_after(left: Option<u64>, part: Part, page: &Page) -> Option<u64>
     ensures left { result ≡ left_after left part page.now }
     ensures fits { rest_of result < 2 ^ 64 }
@@ -139,7 +139,7 @@ fn print_numbers<F: Form>(
     Ok(())
 }
 
-/// The page frame number of a word.
+/// Returns the page frame number of a word.
 fn frame_of(format: Format, word: u64) -> u64
     ensures { result ≡ frame_of format word }
 {

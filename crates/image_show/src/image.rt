@@ -22,7 +22,7 @@ use sector_disk::Disk;
 use sig_header::Mark;
 use std::alloc::Global;
 
-/// Prints what the header block says, and what the image of its mark is: whose it is, its blocks and its page frames.
+/// Prints what the header block says, and the facts of its image: whose it is, its blocks and its page frames.
 pub(crate) fn show_image<D: Disk, F: Form>(
     alloc: Global,
     form: &mut F,
@@ -70,7 +70,7 @@ pub(crate) fn show_image<D: Disk, F: Form>(
     }
 }
 
-/// Prints the facts of the header block, and the image in two readings: of all its blocks, and of its number pages.
+/// Prints the facts of the header block, and then the image in two readings: all its blocks, and its number pages.
 fn print_image<D: Disk, F: Form>(
     form: &mut F,
     disk: &mut D,

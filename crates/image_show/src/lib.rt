@@ -1,5 +1,5 @@
-//! What is written in a swap area, told a fact after another, in lines or in another form: its header block and, where
-//! it has an image, whose that is, and which blocks and page frames it takes.
+//! What is written in a swap area, fact by fact, in lines or in another form: its header block and, if it has an image,
+//! whose image that is, and which blocks and page frames it takes.
 #![tactic(auto)]
 
 mod area;

@@ -7,7 +7,7 @@ use byte_streams::{Sink, put_all};
 use image_facts::Fact;
 use page_core::Failed;
 
-/// A sink takes facts in lines.
+/// A sink receives facts as lines.
 impl<S: Sink> Form for S {
     ghost style = { lines };
 

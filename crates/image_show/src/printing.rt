@@ -21,7 +21,7 @@ pub(crate) fn print<F: Form>(form: &mut F, facts: &[Fact]) -> Result<(), Failed>
     Ok(())
 }
 
-/// Prints the facts of a header block. Their list has room for each bad page, so it stands in a frame of its own.
+/// Prints the facts of a header block. Their list has room for each bad page, so it has a stack frame of its own.
 #[inline(never)]
 pub(crate) fn print_header<F: Form>(form: &mut F, blocks: u32, page: &Page) -> Result<(), Failed>
     ensures whole { OnOk result (Puts F.style (header_facts blocks page.now)
@@ -33,7 +33,7 @@ pub(crate) fn print_header<F: Form>(form: &mut F, blocks: u32, page: &Page) -> R
     print(form, header_facts(blocks, page).as_slice())
 }
 
-/// Prints the facts of a header block, where memory isn't asked for.
+/// Prints the facts of a header block. The only fault is a failed write.
 pub(crate) fn print_header_only<F: Form>(
     form: &mut F,
     blocks: u32,
@@ -65,7 +65,7 @@ pub(crate) fn print_any<F: Form>(form: &mut F, fact: Option<Fact>) -> Result<(),
     }
 }
 
-/// Prints the lines of facts, where memory isn't asked for.
+/// Prints the lines of facts. The only fault is a failed write.
 pub(crate) fn print_only<F: Form>(form: &mut F, facts: &[Fact]) -> Result<(), Fault>
     ensures whole { OnOk result (Puts F.style facts.now (F.written form.old) (F.written form.new)) }
     ensures front { PutsFront F.style facts.now (F.written form.old) (F.written form.new) }

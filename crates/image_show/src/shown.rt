@@ -1,7 +1,7 @@
-/// What there was to show.
+/// What was shown.
 #[derive(Clone, Copy, Debug, PartialEq, Eq)]
 pub enum Shown {
-    /// What is written in the header block, and what that leads to.
+    /// What is written in the header block, and the facts that it leads to.
     Area,
     /// The file or the device has no such block, or it couldn't be read.
     NoHeader,

@@ -11,7 +11,7 @@ use fact_lines::{put_hex_word, put_name, put_numbers, put_text};
 use image_facts::{Fact, Flag, Header};
 use sig_header::AreaFault;
 
-/// The text of a fact: its key, and after a space its value.
+/// Returns the text of a fact: its key, and its value after a space.
 pub fn text_of(fact: &Fact) -> Line
     ensures text { result ≡ fact_text fact.now }
     ensures len { length result ≤ 160 }
@@ -21,7 +21,7 @@ pub fn text_of(fact: &Fact) -> Line
     line
 }
 
-/// The line of a fact.
+/// Returns the line of a fact.
 pub(crate) fn line_of(fact: &Fact) -> Line
     ensures { result ≡ line_text fact.now }
 {
@@ -109,7 +109,7 @@ fn header_key(header: Header) -> &'static [u8]
     }
 }
 
-/// Writes a key, which ends in a space, and a word into an empty buffer.
+/// Writes a key, which ends with a space, and a word into an empty buffer.
 fn put_word(line: &mut Line, key: &[u8], word: &[u8])
     requires empty { length line.old ≡ 0 }
     requires short { length key.now + length word.now ≤ 40 }
@@ -120,7 +120,7 @@ fn put_word(line: &mut Line, key: &[u8], word: &[u8])
     line.put(word);
 }
 
-/// Writes a signature that is no swap area's into an empty buffer.
+/// Writes a signature that isn't a swap area's into an empty buffer.
 fn put_other(line: &mut Line, sig: &[u8; 10])
     requires { length line.old ≡ 0 }
     ensures text { line.new ≡ codes "area other " ++ hex_text sig.now }
@@ -145,7 +145,7 @@ fn put_bad(line: &mut Line, why: AreaFault)
     }
 }
 
-/// Adds a name, which ends in a space, and a number.
+/// Adds a name, which ends with a space, and a number.
 fn put_named(line: &mut Line, name: &[u8], number: u32)
     requires { length line.old + length name.now ≤ 100 }
     ensures added { line.new ≡ line.old ++ name.now ++ decimal number }

@@ -26,19 +26,19 @@ use Rattle.image_stream.specs.declared.streaming.Streamed.TheVariants.{NoImage, 
 abbrev pub pages_of : List SavedFrame → List (List ℕ)
 pages_of frames = map (λ (f : SavedFrame). f.page) frames
 
--- the info page, number pages without their marks, and the pages of page frames
+-- the info page, the number pages without their marks, and the pages of the page frames
 abbrev pub pieces_of : List ℕ → List (List ℕ) → List SavedFrame → List (List ℕ)
 pieces_of info listed frames =
     plain_info info
     ∷ (plain_lists (counts_in info).image_pages (page_at (info ∷ listed)) (length listed) ++ pages_of frames)
 
--- these page frames were given of the image, whose info page this is
+-- these page frames of the image with this info page were given
 abbrev pub AreGiven : Option Content → (blocks header : ℕ) → List ℕ → List SavedFrame → Type 0
 AreGiven content blocks header info frames =
     (f : Frames) × (HasGiven content blocks header f frames × (f.numbers.info ≡ info))
 
--- These pages are made of an info page and number pages that were read, in which nothing is wrong, and of the first
--- saved page frames that were given, which come after all number pages.
+-- These pages are made from an info page and number pages that were read, and in which nothing is wrong, and from the
+-- first saved page frames that were given, which come after all number pages.
 pub record ArePieces (content : Option Content) (blocks header : ℕ) (pieces : List (List ℕ)) : Type 0 where
   pub info : List ℕ
   pub listed : List (List ℕ)
@@ -52,7 +52,7 @@ pub record ArePieces (content : Option Content) (blocks header : ℕ) (pieces : 
       ⊎ ((length listed ≡ meta_of (counts_in info).image_pages) × AreGiven content blocks header info frames)
   pub made : pieces ≡ pieces_of info listed frames
 
--- All of them: nothing is wrong with a whole reading of the image either.
+-- All such pages: nothing is wrong with a whole reading of the image either.
 pub record AreAllPieces (content : Option Content) (blocks header before now : ℕ)
     (pieces : List (List ℕ)) : Type 0 where
   pub info : List ℕ
@@ -64,14 +64,14 @@ pub record AreAllPieces (content : Option Content) (blocks header before now : �
   pub all : AreAllGiven content blocks header before now info frames
   pub made : pieces ≡ pieces_of info listed frames
 
--- the info page was read, and no more, and it counts so many page frames
+-- only the info page was read, and it counts the given number of page frames
 pub record IsAtLists (content : Option Content) (blocks header : ℕ) (p : Pages) (info : List ℕ)
     (count : ℕ) : Type 0 where
   pub stands : Stands content blocks header p (info ∷ [])
   pub counts : (counts_in info).image_pages ≡ count
   pub room : meta_of count + 1 ≤ (counts_in info).pages
 
--- these number pages were read, and are taken without their marks
+-- these number pages were read, and written without their marks
 pub record HasLists (content : Option Content) (blocks header : ℕ) (p : Pages) (info : List ℕ) (count k : ℕ)
     (old new : Option (List ℕ)) : Type 0 where
   pub listed : List (List ℕ)
@@ -79,7 +79,7 @@ pub record HasLists (content : Option Content) (blocks header : ℕ) (p : Pages)
   pub size : length listed ≡ k
   pub taken : TakesAll (concat (plain_lists count (page_at (info ∷ listed)) k)) old new
 
--- some of them, up to the first name with findings
+-- some of the number pages were read, up to the first name with findings
 pub record HasRefusedLists (content : Option Content) (blocks header before now : ℕ) (told then : Told) (info : List ℕ)
     (count : ℕ) (old new : Option (List ℕ)) : Type 0 where
   pub listed : List (List ℕ)
@@ -94,7 +94,7 @@ WritesLists content blocks header before now told then info count q old new true
 WritesLists content blocks header before now told then info count q old new false =
     HasRefusedLists content blocks header before now told then info count old new
 
--- a front of number pages that were read is taken
+-- a prefix of the number pages that were read was written
 pub record IsListFront (content : Option Content) (blocks header : ℕ) (info : List ℕ) (count : ℕ)
     (old new : Option (List ℕ)) : Type 0 where
   pub listed : List (List ℕ)
@@ -102,7 +102,7 @@ pub record IsListFront (content : Option Content) (blocks header : ℕ) (info : 
   pub read : AreRead content blocks header (info ∷ listed)
   pub taken : TakesFront (concat (plain_lists count (page_at (info ∷ listed)) (length listed))) old new
 
--- the pages of the first saved page frames are taken
+-- the pages of the first saved page frames were written
 pub record HasFrames (content : Option Content) (blocks header : ℕ) (info : List ℕ)
     (frames : List SavedFrame) : Type 0 where
   pub given : AreGiven content blocks header info frames
@@ -125,7 +125,7 @@ IsFrameFront content blocks header info old new =
     (frames : List SavedFrame) × (HasFrames content blocks header info frames
     × TakesFront (concat (pages_of frames)) old new)
 
--- the info page was read, and no more, and no number was given yet
+-- only the info page was read, and no number was given yet
 pub record IsAtRest (content : Option Content) (blocks header : ℕ) (n : Numbers) (p : Pages) : Type 0 where
   pub numbered : HasNumbered content blocks header n []
   pub stands : Stands content blocks header p (n.info ∷ [])

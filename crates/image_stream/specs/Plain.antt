@@ -1,6 +1,6 @@
--- The stream of an image in the plain format, which is what `export` writes and `import` takes, by the pages of its own
--- stream: that of a plain image as it is. Where pages of zeros are skipped, the info page counts a data page for each
--- saved page frame, the numbers lose their marks, and each page frame has its page.
+-- The stream of an image in the plain format, which `export` writes and `import` reads, by the pages of the image's own
+-- stream. The stream of a plain image stays as it is. If pages of zeros are skipped, the info page counts a data page
+-- for each saved page frame, the numbers lose their marks, and each page frame has its page.
 use Rattle.std.specs.Prelude.{ℕ, ◌+◌, ◌*◌, ◌-◌, ◌%◌, ◌^◌, List, ◌∷◌, ◌++◌, length, map, nat_lt, if◌then◌else◌}
 use Rattle.std.specs.List.{range_with_len}
 use Rattle.page_core.specs.declared.format.Format.{Format}
@@ -21,7 +21,7 @@ plain_info info =
     with_word (with_word info 53 (plain_pages (counts_in info).image_pages % 2 ^ 64)) 54
     (4096 * plain_pages (counts_in info).image_pages % 2 ^ 64)
 
--- word j of a number page, of whose words so many are numbers
+-- word j of a number page whose first `count` words are numbers
 abbrev pub plain_word : ℕ → List ℕ → ℕ → ℕ
 plain_word count page j = if nat_lt j count then number_of_word (word page j) else word page j
 

@@ -21,7 +21,7 @@ use Rattle.image_stream.specs.declared.streaming.Streamed.TheVariants.{NoImage, 
 abbrev pub chain_stream : DiskImage → ℕ → List (List ℕ)
 chain_stream v header = plain_stream (chain_format v header) (chain_page v header)
 
--- these pages are that stream, or its first ones, where the disk tells what it holds
+-- these pages are that stream, or its first ones, if the disk tells what it holds
 abbrev pub IsStream : Option Content → ℕ → List (List ℕ) → Type 0
 IsStream content header pieces = IfSome content (λ held. pieces ≡ chain_stream (as_it_reads held) header)
 
@@ -39,8 +39,8 @@ pub record ArePlain (content : Option Content) (blocks header before now : ℕ) 
 abbrev pub AreAsRead : Option Content → (blocks header : ℕ) → List (List ℕ) → Type 0
 AreAsRead content blocks header pieces = SavesThere Plain content blocks header ⊎ (pieces ≡ [])
 
--- All pages of the stream are taken: those of a plain image as they were read, or what is made of one that skips pages
--- of zeros.
+-- All pages of the stream were written: those of a plain image as they were read, or those made from one that skips
+-- pages of zeros.
 pub record IsWritten (content : Option Content) (blocks header before now : ℕ)
     (old new : Option (List ℕ)) : Type 0 where
   pub pieces : List (List ℕ)
@@ -48,8 +48,8 @@ pub record IsWritten (content : Option Content) (blocks header before now : ℕ)
   pub stream : IsStream content header pieces
   pub taken : TakesAll (concat pieces) old new
 
--- The first pages of the stream are taken, up to the first name with findings, and just these are told: of a plain
--- image all pages that were read.
+-- The first pages of the stream were written, up to the first name with findings, and exactly these are reported. Of a
+-- plain image, all pages that were read were written.
 pub record IsCutShort (content : Option Content) (blocks header before now : ℕ) (told then : Told)
     (old new : Option (List ℕ)) : Type 0 where
   pub pieces : List (List ℕ)
@@ -59,7 +59,7 @@ pub record IsCutShort (content : Option Content) (blocks header before now : ℕ
   pub begun : IsBegun content header pieces
   pub taken : TakesAll (concat pieces) old new
 
--- a front of the stream is taken, of pages that were read
+-- a prefix of the stream was written, from pages that were read
 pub record IsFront (content : Option Content) (blocks header : ℕ) (old new : Option (List ℕ)) : Type 0 where
   pub pieces : List (List ℕ)
   pub read : (AreRead content blocks header pieces × AreAsRead content blocks header pieces)

@@ -20,8 +20,8 @@ use image_saved::read_page;
 use page_core::{Failed, Page};
 use sector_disk::Disk;
 
-/// Writes the stream in the plain format of an image that skips pages of zeros, of which nothing was read. Its number
-/// pages are read twice.
+/// Writes an image that skips pages of zeros, of which nothing was read yet, as a stream in the plain format. The
+/// number pages are read twice.
 pub(crate) fn convert<D: Disk, S: Sink, R: Report>(
     mut pages: Pages,
     disk: &mut D,
@@ -92,7 +92,7 @@ fn write_rest<D: Disk, S: Sink, R: Report>(
     write_frames(Frames::of(numbers, pages), disk, out, report)
 }
 
-/// Writes the number pages of an image with so many numbers, without their marks, and answers whether all were read.
+/// Writes the number pages of an image with `count` numbers, without their marks, and returns whether all were read.
 fn write_numbers<D: Disk, S: Sink, R: Report>(
     pages: &mut Pages,
     disk: &mut D,

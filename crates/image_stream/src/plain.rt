@@ -9,12 +9,13 @@ use page_core::{Format, Page};
 /// How many numbers a page of page frame numbers has.
 pub(crate) const NUMBERS: u64 = 512;
 
-/// Which words of an info page count its pages and their bytes (struct swsusp_info, kernel/power/power.h).
+/// The indices of the words of an info page that count its pages and their bytes (struct swsusp_info,
+/// kernel/power/power.h).
 const PAGES: usize = 424 / 8;
 
 const SIZE: usize = 432 / 8;
 
-/// The info page of so many numbers, which counts a data page for each saved page frame.
+/// Returns the info page for `numbers` saved page frames, which counts a data page for each of them.
 pub(crate) fn plain_info(info: &Page, numbers: u64) -> Page
     requires { (counts_in info.now).image_pages ≡ numbers }
     ensures { result ≡ plain_info info.now }
@@ -28,7 +29,7 @@ pub(crate) fn plain_info(info: &Page, numbers: u64) -> Page
     plain
 }
 
-/// A page of page frame numbers without their marks. So many of its words are numbers.
+/// Returns a page of page frame numbers without their marks. Its first `count` words are numbers.
 pub(crate) fn plain_numbers(page: &Page, count: u64) -> Page
     ensures { result ≡ plain_numbers count page.now }
 {
@@ -39,7 +40,7 @@ pub(crate) fn plain_numbers(page: &Page, count: u64) -> Page
     plain
 }
 
-/// Word i of it.
+/// Returns word `i` of that page.
 fn plain_word(page: &Page, i: u64, count: u64) -> u64
     requires { i < 512 }
     ensures { result ≡ plain_word count page.now i }

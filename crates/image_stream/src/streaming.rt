@@ -18,7 +18,7 @@ use thiserror::Error;
 pub enum Streamed {
     /// The header block, if the disk has it, isn't marked.
     NoImage,
-    /// The findings of the header block, or of the first block that is named and has some, were told.
+    /// The header block, or the first named block that has findings, was refused; the findings were reported.
     Refused,
     Whole,
 }
@@ -54,8 +54,8 @@ impl From<Failed> for Stop {
     }
 }
 
-/// Writes the stream of the image of the area whose header lies in a block: its pages as they are read, up to the first
-/// block that is named and has findings. Nothing is flushed.
+/// Writes the stream of the image of the area whose header lies in block `header`: its pages as they are read, up to
+/// the first named block that has findings. Nothing is flushed.
 pub fn stream<D: Disk, S: Sink, R: Report>(
     alloc: Global,
     disk: &mut D,

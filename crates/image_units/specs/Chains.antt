@@ -1,4 +1,4 @@
--- What the reader of a chain keeps of what it has read, and what it gives.
+-- What the reader of a chain keeps of what it has read, and what it returns.
 use Rattle.std.specs.Prelude.{◌≡◌, ℕ, ◌+◌, ◌*◌, ◌<◌, ◌≤◌, List, length, slice_index, Option, None, Some, IfSome}
 use Rattle.definitions.specs.Disk.{Content, DiskImage, as_it_reads}
 use Rattle.plain_machine.specs.Chain.{entry_block, map_block}
@@ -10,13 +10,13 @@ use Rattle.image_units.specs.declared.chain.Chain.{Chain}
 use Rattle.image_units.specs.declared.chain.Read.{Read}
 use Rattle.image_units.specs.declared.chain.Read.TheVariants.{Page, Wrong}
 
--- these are the blocks of the first maps, and all blocks of the maps and the pages so far are blocks of the disk
+-- these are the blocks of the first maps, and all blocks of the maps and pages so far are blocks of the disk
 pub record IsChain (blocks : ℕ) (v : DiskImage) (first count : ℕ) (maps : List ℕ) : Type 0 where
   pub maps_are : (m : ℕ) → m < length maps → slice_index maps m ≡ map_block v first m
   pub maps_inside : (m : ℕ) → m < length maps → map_block v first m < blocks
   pub pages_inside : (k : ℕ) → k < count → entry_block v first k < blocks
 
--- so many pages were read
+-- the given number of pages was read
 pub record StandsAt (content : Option Content) (c : Chain) : Type 0 where
   pub history : List Name
   pub follows : Follows c.first c.walker history
@@ -25,18 +25,18 @@ pub record StandsAt (content : Option Content) (c : Chain) : Type 0 where
   pub enough : c.count ≤ 511 * length c.maps.items
   pub chain : IfSome content (λ held. IsChain c.walker.limits.blocks (as_it_reads held) c.first c.count c.maps.items)
 
--- the chain that is read stays
+-- the chain that is read stays the same
 pub record IsSameChain (old new : Chain) : Type 0 where
   pub limits : new.walker.limits ≡ old.walker.limits
   pub first : new.first ≡ old.first
 
--- a page is the next one of the chain, where the disk tells what it holds
+-- a page is the next one of the chain, if the disk tells what it holds
 abbrev pub IsNextPage : Option Content → Chain → List ℕ → Place → Type 0
 IsNextPage content c page place =
     IfSome content (λ held. (page ≡ chain_of (as_it_reads held) c.first c.count)
     × (place ≡ place_in (as_it_reads held) c.first c.count))
 
--- what an answer says
+-- what each result says
 abbrev pub Gives : Option Content → (pages before now : ℕ) → (old new : Chain) → List ℕ → Read → Type 0
 Gives content pages before now old new page (Page place) =
     StandsAt content new × (new.count ≡ old.count + 1) × IsNextPage content old page place

@@ -1,4 +1,4 @@
--- What is wrong with the units of an image, in the order of reading, and what is known once nothing is.
+-- What is wrong with the units of an image, in the order of reading, and what is known if nothing is.
 use Rattle.std.specs.Prelude.{◌≡◌, ℕ, ◌+◌, ◌*◌, ◌<◌, ◌≤◌, ◌⊎◌, true, List, take, ◌++◌, slice_index, if◌then◌else◌}
 use Rattle.std.specs.Prelude.{Option, None, Some, IfSome}
 use Rattle.definitions.specs.Disk.{Content, DiskImage, as_it_reads}
@@ -11,25 +11,25 @@ use Rattle.image_units.specs.Units.{IsUnit, bytes_from, bytes_of, checksum_of, i
 use Rattle.image_units.specs.Units.{unit_fault}
 use Rattle.image_units.specs.declared.chain.Chain.{Chain}
 
--- page k is one that unit j takes; after its first page only where its length is one
+-- page k belongs to unit j; a page after the unit's first one does only if its length is valid
 pub record IsWithin (chain : ℕ → List ℕ) (unit k : ℕ) : Type 0 where
   pub low : start_of chain unit ≤ k
   pub high : k < start_of chain (unit + 1)
   pub len : start_of chain unit < k → is_length (length_at chain (start_of chain unit)) ≡ true
 
--- a page that unit j takes isn't read
+-- a page of unit j couldn't be read
 pub record IsUnread (l : Limits) (first : ℕ) (content : Option Content) (pages unit before now : ℕ)
     (f : Finding) : Type 0 where
   pub page : ℕ
   pub fault : IsNameFault l first content page pages before now f
   pub within : IfSome content (λ held. IsWithin (chain_of (as_it_reads held) first) unit page)
 
--- how many pages are read before a unit's fault is known
+-- how many pages are read before the fault of a unit is known
 abbrev pub pages_before : (ℕ → List ℕ) → ℕ → ℕ
 pages_before chain unit =
     if is_length (length_at chain (start_of chain unit)) then start_of chain (unit + 1) else start_of chain unit + 1
 
--- the pages up to there are read, and it is at fault by itself
+-- the pages up to there were read, and the unit itself has a fault
 pub record IsFaulty (l : Limits) (first : ℕ) (content : Option Content) (pages unit : ℕ) (f : Finding) : Type 0 where
   pub count : ℕ
   pub history : List Name
@@ -38,7 +38,7 @@ pub record IsFaulty (l : Limits) (first : ℕ) (content : Option Content) (pages
       (unit_fault (chain_of v first) (place_in v first) pages unit ≡ Some f)
       × (count ≡ pages_before (chain_of v first) unit))
 
--- the first that is wrong with a unit
+-- the first thing that is wrong with a unit
 abbrev pub IsUnitWrong : Limits → ℕ → Option Content → (pages unit before now : ℕ) → Finding → Type 0
 IsUnitWrong l first content pages unit before now f =
     IsUnread l first content pages unit before now f ⊎ IsFaulty l first content pages unit f
@@ -52,7 +52,7 @@ pub record IsExpanded (v : DiskImage) (first pages unit : ℕ) (bytes : List ℕ
   pub whole : IsUnit (chain_of v first) pages unit
   pub bytes_are : take (size_of pages unit) bytes ≡ bytes_of (chain_of v first) pages unit
 
--- what is told of a unit
+-- what each result says of a unit
 abbrev pub UnitSays : Option Content → (pages unit before now : ℕ) → (old new : Chain) → List ℕ → Option Finding →
     Type 0
 UnitSays content pages unit before now old new bytes None =
@@ -61,7 +61,7 @@ UnitSays content pages unit before now old new bytes None =
 UnitSays content pages unit before now old new bytes (Some f) =
     IsUnitWrong old.walker.limits old.first content pages unit before now f
 
--- what is told of the pages after a unit's first one
+-- what each result says of the pages after a unit's first one
 abbrev pub FillSays : Option Content → (pages count before now : ℕ) → (old new : Chain) → (packed filled : List ℕ) →
     Option Finding → Type 0
 FillSays content pages count before now old new packed filled None =

@@ -17,20 +17,21 @@ first_of v header = image_of (block v header)
 abbrev pub pages_of_chain : (ℕ → List ℕ) → ℕ
 pages_of_chain chain = (counts_in (chain 0)).pages
 
--- the checksum that the header has, where its flag 4 says that it has one (SF_CRC32_MODE)
+-- the checksum in the header, if flag 4 says that it has one (SF_CRC32_MODE)
 abbrev pub crc_of : List ℕ → ℕ
 crc_of page = number_at 4 page 4060
 
 abbrev pub checksum_wanted : List ℕ → Option ℕ
 checksum_wanted page = if flags_of page / 4 % 2 == 1 then Some (crc_of page) else None
 
--- where it has one, it is that of the units
+-- the header's checksum, if it has one, is that of the units
 abbrev pub Agrees : Option ℕ → ℕ → Type 0
 Agrees None found = Unit {0}
 Agrees (Some wanted) found = wanted ≡ found
 
--- Of a whole image in an area of a disk with so many blocks, whose first map is this block: its header block and info
--- page, how many pages it has, its units, each without a fault, the first page of each, and the checksum.
+-- The index of a whole image whose first map is this block, in an area of a disk with the given number of blocks: its
+-- header block and info page, its number of pages, the first page of each unit, none of which has a fault, and the
+-- checksum.
 pub record IsIndexOf (blocks : ℕ) (v : DiskImage) (first : ℕ) (header : List ℕ) (index : Index) : Type 0 where
   pub header_is : index.header ≡ header
   pub first_is : index.first ≡ first

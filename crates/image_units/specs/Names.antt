@@ -1,4 +1,4 @@
--- The chain of a compressed image as it is read, up to the first block that is named and has a fault.
+-- The chain of a compressed image as it is read, up to the first named block that has a fault.
 use Rattle.std.specs.Prelude.{◌≡◌, ℕ, ◌+◌, ◌-◌, ◌/◌, ◌%◌, ◌==◌, ◌&&◌, nat_lt, true, ⊤, if◌then◌else◌, List, [], ◌∷◌}
 use Rattle.std.specs.Prelude.{Option, None, Some, Ok, Err}
 use Rattle.definitions.specs.Disk.{Content, DiskImage, HasRisen, block}
@@ -12,7 +12,7 @@ use Rattle.image_check.specs.declared.finding.Finding.{Finding}
 use Rattle.image_check.specs.declared.finding.Finding.TheVariants as finding
 use Rattle.image_check.specs.declared.finding.Place.{Place}
 
--- page k of the chain whose first map is block first, and the entry that names it
+-- page k of the chain whose first map is block `first`, and the entry that names it
 abbrev pub chain_of : DiskImage → (first k : ℕ) → List ℕ
 chain_of v first k = block v (entry_block v first k)
 
@@ -40,20 +40,20 @@ pub record HasRead (l : Limits) (first : ℕ) (content : Option Content) (k : �
   pub all : AreAllRead h
   pub count : entries_in h ≡ k
 
--- what is wrong with a block that is named as a map, and isn't read: the chain has ended where it is 0
+-- what is wrong with a block that is named as a map and isn't read: if it is block 0, the chain has ended
 abbrev pub found_map : (map b : ℕ) → BlockFault → (pages : ℕ) → Finding
 found_map map b why pages =
     if (b == 0) && nat_lt 1 map then finding.Ends (map - 1) pages else finding.Map map why
 
--- what is wrong with a name that follows a history, of an image of so many pages
+-- what is wrong with a name that follows a history, in an image with the given number of pages
 abbrev pub name_fault : ℕ → List Name → Name → Option Finding
 name_fault pages h (map_at b (Ok page)) = None
 name_fault pages h (map_at b (Err why)) = Some (found_map (maps_in h + 1) b why pages)
 name_fault pages h (page_at b (Ok page)) = None
 name_fault pages h (page_at b (Err why)) = Some (finding.Entry (place_of h) why)
 
--- The first k pages were read, and then comes a block that is named and has this fault; if it can't be read, a call of
--- the disk failed.
+-- The first k pages were read, and the next block that is named has this fault; if it can't be read, a call of the disk
+-- failed.
 pub record IsNameFault (l : Limits) (first : ℕ) (content : Option Content) (k pages before now : ℕ)
     (f : Finding) : Type 0 where
   pub history : List Name

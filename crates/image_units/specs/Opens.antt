@@ -1,4 +1,4 @@
--- What a whole reading of a compressed image tells.
+-- What a whole reading of a compressed image reports.
 use Rattle.std.specs.Prelude.{◌≡◌, ◌≢◌, ℕ, ◌+◌, ◌<◌, ◌≤◌, ◌⊎◌, ⊤, true, false, List, [], ◌∷◌, length, Option, None}
 use Rattle.std.specs.Prelude.{Some, IfSome, Ok}
 use Rattle.page_core.specs.declared.format.Format.{Format}
@@ -43,7 +43,7 @@ abbrev pub AreFine : Option Content → (first pages units : ℕ) → Type 0
 AreFine content first pages units =
     IfSome content (λ held. (j : ℕ) → j < units → IsUnit (chain_of (as_it_reads held) first) pages j)
 
--- Nothing is wrong with the info page, nor with the units before, and then comes the first that is wrong with one.
+-- Nothing is wrong with the info page, nor with the units before this one, and this is the first fault of this one.
 pub record IsBadUnit (l : Limits) (first : ℕ) (content : Option Content) (format : Format) (before now : ℕ)
     (f : Finding) : Type 0 where
   pub info : List ℕ
@@ -69,7 +69,7 @@ pub record IsBadChecksum (first : ℕ) (content : Option Content) (format : Form
       found ≡ checksum_of (chain_of (as_it_reads held) first) (counts_in info).pages (units_of (counts_in info).pages))
   pub finding : f ≡ finding.Checksum wanted found
 
--- what is wrong with an image, in the order of reading: its first block that is named, its info page, a unit, the
+-- what is wrong with an image, in the order of reading: the first named block with a fault, the info page, a unit, the
 -- checksum
 abbrev pub IsBadImage : Limits → ℕ → Option Content → Format → (before now : ℕ) → List ℕ → List Finding → Type 0
 IsBadImage l first content format before now header found =
@@ -78,8 +78,8 @@ IsBadImage l first content format before now header found =
     ⊎ (((f : Finding) × ((found ≡ f ∷ []) × IsBadUnit l first content format before now f))
     ⊎ ((f : Finding) × ((found ≡ f ∷ []) × IsBadChecksum first content format header f))))
 
--- The header block is that of a compressed image. Something is wrong with it but for that (so flag 2 counts as set), or
--- with its image.
+-- The header block is that of a compressed image. Something is wrong with it other than being compressed (so flag 2
+-- counts as set), or with its image.
 pub record IsBad (content : Option Content) (blocks header before now : ℕ) (found : List Finding) : Type 0 where
   pub page : List ℕ
   pub mark : Mark
@@ -99,7 +99,7 @@ IsWrong content blocks header before now found =
     ((found ≡ finding.HeaderUnread header ∷ []) × HasRisen before now)
     ⊎ IsBad content blocks header before now found
 
--- what an answer says
+-- what each result says
 abbrev pub OpensUnits : Option Content → (blocks header before now : ℕ) → Told → Told → Opened → Type 0
 OpensUnits content blocks header before now old new Plain = (new ≡ old) × IsPlain content blocks header
 OpensUnits content blocks header before now old new Refused =
@@ -107,7 +107,7 @@ OpensUnits content blocks header before now old new Refused =
 OpensUnits content blocks header before now old new (Whole index) =
     (new ≡ old) × IfSome content (λ held. IsIndexed blocks (as_it_reads held) header index)
 
--- the same, where the index of a whole image lies apart
+-- the same, with the index of a whole image given separately
 abbrev pub FindsUnits : Option Content → (blocks header before now : ℕ) → Told → Told → Option Index → Found → Type 0
 FindsUnits content blocks header before now old new index found.Plain =
     OpensUnits content blocks header before now old new Plain

@@ -1,4 +1,4 @@
--- What is told of an image from its first map on.
+-- What is reported of an image from its first map on.
 use Rattle.std.specs.Prelude.{◌≡◌, ◌≢◌, ℕ, ◌+◌, ◌<◌, ◌⊎◌, List, [], ◌∷◌, length, slice_index, IfSome, Option, Some}
 use Rattle.definitions.specs.Disk.{Content, as_it_reads}
 use Rattle.image_check.specs.Checked.{format_of}
@@ -35,7 +35,7 @@ PassSays content pages before now old new (units.Whole starts crc) =
     × (new.count ≡ start_of (chain_of (as_it_reads held) old.first) (units_of pages))
     × (slice_index starts.items (units_of pages) ≡ new.count))
 
--- just a checksum that the header has, and that is another, is told
+-- a checksum in the header is reported if and only if it is another than that of the units
 abbrev pub Compares : Index → (crc : ℕ) → Told → Told → Opened → Type 0
 Compares index crc old new Plain = ⊥
 Compares index crc old new Refused =
@@ -54,7 +54,7 @@ pub record IsOtherSum (content : Option Content) (pages : ℕ) (header : List �
   pub is : IfSome content (λ held. found ≡ checksum_of (chain_of (as_it_reads held) c.first) pages (units_of pages))
   pub finding : f ≡ finding.Checksum wanted found
 
--- what an answer says of the pages after the info page
+-- what each result says of the pages after the info page
 abbrev pub OpensBehind : Option Content → (header info : List ℕ) → Chain → (before now : ℕ) → Told → Told → Opened →
     Type 0
 OpensBehind content header info c before now old new Plain = ⊥
@@ -65,7 +65,7 @@ OpensBehind content header info c before now old new (Whole index) =
     (new ≡ old) × (IsInfo content c.first info →
     IfSome content (λ held. IsIndexOf c.walker.limits.blocks (as_it_reads held) c.first header index))
 
--- what an answer says, by the first map alone
+-- what each result says, given only the first map
 abbrev pub OpensChain : Option Content → (flags : ℕ) → List ℕ → Chain → (before now : ℕ) → Told → Told → Opened → Type 0
 OpensChain content flags header c before now old new Plain = ⊥
 OpensChain content flags header c before now old new Refused =

@@ -36,7 +36,7 @@ pub(crate) struct Chain {
 impl Chain {
     ghost use Rattle.image_units.specs.Chains.{Gives, Goes, IsSameChain, StandsAt};
 
-    /// A reader before the first map.
+    /// Returns a reader before the first map.
     pub fn begin(alloc: Global, limits: &Limits, first: u64) -> Result<Chain, NoMemory>
         ensures stands { IfOk result (λ c. (content : Option Content) → StandsAt content c) }
         ensures limits { IfOk result (λ c. c.walker.limits ≡ limits.now) }
@@ -51,7 +51,7 @@ impl Chain {
         })
     }
 
-    /// Reads the next page, of an image of so many pages.
+    /// Reads the next page of an image with `pages` pages.
     pub fn next<B: Walks, K: Original>(
         &mut self,
         source: &mut Source<B, K>,
@@ -71,7 +71,7 @@ impl Chain {
         }
     }
 
-    /// Reads the next block that is named. Goes on where that is a map.
+    /// Reads the next block that is named. Returns `None` if that is a map.
     fn read_name<B: Walks, K: Original>(
         &mut self,
         source: &mut Source<B, K>,
@@ -117,7 +117,7 @@ impl Chain {
     }
 }
 
-/// What is wrong with a block that is named as a map, and isn't read.
+/// Returns what is wrong with a block that is named as a map and isn't read.
 fn found_map(map: u32, block: u64, why: BlockFault, pages: u64) -> Finding
     ensures { result ≡ found_map map block why pages }
 {

@@ -3,7 +3,7 @@ ghost use Rattle.definitions.specs.Bytes.{IsPage};
 
 use page_core::Page;
 
-/// Where the units of a compressed image lie. It has 4 bytes for each unit, and 8 for each map.
+/// Where the units of a compressed image lie. It takes 4 bytes for each unit, and 8 for each map.
 #[derive(Drop)]
 pub struct Index {
     /// The header block of the area.
@@ -12,7 +12,7 @@ pub struct Index {
     pub first: u64,
     /// The info page, which isn't compressed.
     pub info: Page,
-    /// How many pages the image has, the info page among them.
+    /// How many pages the image has, including the info page.
     pub pages: u64,
     /// The blocks of the maps.
     pub maps: Vec<u64>,

@@ -19,10 +19,10 @@ use sig_header::{AreaKind, SF_NOCOMPRESS_MODE};
 use std::alloc::Global;
 use std::marker::Brand;
 
-/// How many pages an image may have (8 TiB).
+/// The most pages that an image may have (8 TiB).
 const MOST_PAGES: u64 = 2_147_483_648;
 
-/// Where the header block has its checksum (`crc32`, struct swsusp_header), and its flags.
+/// The offsets of the header block's checksum (`crc32`, struct swsusp_header) and of its flags.
 const CRC32: usize = 4060;
 
 const FLAGS: usize = 4072;
@@ -30,18 +30,18 @@ const FLAGS: usize = 4072;
 /// The header has the checksum of the units (kernel/power/power.h).
 pub const SF_CRC32_MODE: u32 = 4;
 
-/// What there was to open.
+/// The result of opening a compressed image.
 #[derive(Drop)]
 pub enum Opened {
     /// The header block, if the disk has it, isn't marked, or its image isn't compressed.
     Plain,
-    /// The first that is wrong was told.
+    /// The first fault was reported.
     Refused,
-    /// The whole image was read, and nothing is wrong with it so far: what its pages say wasn't asked.
+    /// The whole image was read, and nothing is wrong with it so far; the contents of its pages weren't checked.
     Whole(Index),
 }
 
-/// What was found, without the index.
+/// The result of a reading, without the index.
 #[derive(Clone, Copy)]
 enum Found {
     Plain,
@@ -49,7 +49,7 @@ enum Found {
     Whole,
 }
 
-/// The pages before the units.
+/// The pages that come before the units.
 #[derive(Clone, Copy)]
 struct Front<'a> {
     header: &'a Page,
@@ -60,12 +60,12 @@ struct Front<'a> {
 #[derive(Drop)]
 pub(crate) enum Units {
     Wrong(Finding),
-    /// The page at which each starts, and their checksum.
+    /// The page at which each unit starts, and the checksum of all units.
     Whole(Vec<u32>, u32),
 }
 
-/// Reads the whole image of the area whose header lies in a block, if it is compressed. An image of more than 2^31
-/// pages has no room in memory.
+/// Reads the whole image of the area whose header lies in block `header`, if it is compressed. An image of more than
+/// 2^31 pages has no room in memory.
 fn read_image<B: Walks, K: Original, R: Report>(
     alloc: Global,
     source: &mut Source<B, K>,
@@ -100,7 +100,7 @@ fn read_image<B: Walks, K: Original, R: Report>(
     read_chain(alloc, source, &page, mark.flags, chain, report)
 }
 
-/// Reads the image of a header block with these flags from its first map on.
+/// Reads the image of a header block with these flags, from its first map on.
 fn read_chain<B: Walks, K: Original, R: Report>(
     alloc: Global,
     source: &mut Source<B, K>,
@@ -166,7 +166,7 @@ fn read_behind<B: Walks, K: Original, R: Report>(
     }
 }
 
-/// Where the units of an image lie.
+/// Returns the index of an image.
 fn index_of(header: &Page, info: &Page, pages: u64, chain: Chain, starts: Vec<u32>) -> Index
     requires { pages ≤ 2147483648 }
     ensures header { result.header ≡ header.now }
@@ -206,7 +206,7 @@ fn compare<R: Report>(index: Index, crc: u32, report: &mut R) -> Opened
     }
 }
 
-/// The checksum that a header block has.
+/// Returns the checksum of a header block, if it has one.
 fn checksum_wanted(page: &Page) -> Option<u32>
     ensures { result ≡ checksum_wanted page.now }
 {
@@ -217,7 +217,7 @@ fn checksum_wanted(page: &Page) -> Option<u32>
     }
 }
 
-/// Reads the units of an image of so many pages.
+/// Reads the units of an image with `pages` pages.
 fn read_units<B: Walks, K: Original>(
     alloc: Global,
     chain: &mut Chain,
@@ -254,9 +254,9 @@ fn add_start(starts: &mut Vec<u32>, page: u64) -> Result<(), NoMemory>
     starts.push(page).map_err(|_| NoMemory)
 }
 
-/// Reads the whole image of the area whose header lies in a block, if it is compressed: each unit once, in memory for
-/// one of them, a few bits for each block of the disk, and the index. The disk is only read. An image of more than 2^31
-/// pages has no room in memory.
+/// Reads the whole image of the area whose header lies in block `header`, if it is compressed. Each unit is read once,
+/// with memory for one unit, a few bits for each block of the disk, and the index. The disk is only read. An image of
+/// more than 2^31 pages has no room in memory.
 pub fn open<D: Disk, R: Report>(
     alloc: Global,
     disk: &mut D,
@@ -285,7 +285,7 @@ pub fn open<D: Disk, R: Report>(
     }
 }
 
-/// The same over a disk that is only read, which is given back; the index of a whole image is put into its place.
+/// Does the same over a disk that is only read and is given back, and stores the index of a whole image in its place.
 fn open_below<B: Walks + Drop, K: Original, R: Report>(
     alloc: Global,
     below: B,

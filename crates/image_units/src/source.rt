@@ -10,7 +10,7 @@ use overlay_disk::Original;
 use page_core::{Failed, Page};
 use std::marker::PhantomData;
 
-/// A disk that is only read, and holds what it held.
+/// A disk that is only read, and so keeps what it held.
 #[derive(Drop)]
 pub struct Source<B: Walks, K: Original> {
     pub below: B,
@@ -20,7 +20,7 @@ pub struct Source<B: Walks, K: Original> {
 }
 
 impl<B: Walks, K: Original> Source<B, K> {
-    /// A disk as it is now.
+    /// Wraps a disk as it is now.
     pub fn over(below: B) -> Source<B, K>
         requires { B.state below ≡ K.state }
     {
@@ -30,7 +30,7 @@ impl<B: Walks, K: Original> Source<B, K> {
         }
     }
 
-    /// Gives the disk back.
+    /// Returns the wrapped disk.
     pub fn into_below(self) -> B
         ensures same { IsSame K.state (B.state result) }
         ensures faults { K.state.faults ≤ (B.state result).faults }
@@ -40,14 +40,14 @@ impl<B: Walks, K: Original> Source<B, K> {
         below
     }
 
-    /// How many blocks it has.
+    /// Returns how many blocks the disk has.
     pub fn blocks(&self) -> u32
         ensures { result ≡ K.state.blocks }
     {
         self.below.blocks()
     }
 
-    /// Reads a block. After a failure `into` holds any bytes.
+    /// Reads a block. After a failure the contents of `into` are arbitrary.
     pub fn read(&mut self, b: u32, into: &mut Page) -> Result<(), Failed>
         requires { b < K.state.blocks }
         ensures bytes { OnOk result (IfSome K.state.content (λ held. into.new ≡ block (as_it_reads held) b)) }
@@ -57,7 +57,7 @@ impl<B: Walks, K: Original> Source<B, K> {
         self.below.read(b, into)
     }
 
-    /// Lets a walker go on.
+    /// Lets a walker continue.
     pub fn step(&mut self, walker: &mut Walker, page: &mut Page) -> Option<Visit>
         requires { K.state.blocks ≡ walker.old.limits.blocks }
         ensures step { IfSome result (λ visit. (first : ℕ) (h : List Name) → Follows first walker.old h →

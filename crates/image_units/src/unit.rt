@@ -7,19 +7,19 @@ use lzo::{LzoFault, expand};
 use page_core::{NoMemory, Page};
 use std::alloc::Global;
 
-/// How many bytes a unit's pages have at most: 32 pages (LZO_UNC_SIZE).
+/// The most bytes that the pages of a unit have: 32 pages (LZO_UNC_SIZE).
 const MOST_BYTES: usize = 131_072;
 
-/// How many bytes the pages have that a unit takes at most: 35 pages (LZO_CMP_SIZE).
+/// The most bytes of the pages that a unit takes on the disk: 35 pages (LZO_CMP_SIZE).
 const MOST_PACKED: usize = 143_360;
 
-/// How many bytes of a page.
+/// The number of bytes of a page.
 const PAGE: usize = 4096;
 
-/// How many bytes the length of a unit takes (LZO_HEADER).
+/// The number of bytes of a unit's length (LZO_HEADER).
 const HEADER: usize = 8;
 
-/// A unit: the pages that it takes, and the bytes that it expands to.
+/// A unit: the pages that it takes on the disk, and the bytes that it expands to.
 #[derive(Drop)]
 pub struct Unit {
     packed: Vec<u8>,
@@ -29,7 +29,7 @@ pub struct Unit {
 }
 
 impl Unit {
-    /// Memory for a unit.
+    /// Allocates memory for a unit.
     pub fn new(alloc: Global) -> Result<Unit, NoMemory> {
         Ok(Unit {
             packed: zeros(alloc, MOST_PACKED)?,
@@ -37,7 +37,7 @@ impl Unit {
         })
     }
 
-    /// Takes page i of those that the unit takes.
+    /// Stores page `i` of those that the unit takes.
     pub fn put(&mut self, i: usize, page: &Page)
         requires { i < 35 }
         ensures added { take (4096 * i + 4096) self.new.packed.items ≡ take (4096 * i) self.old.packed.items
@@ -47,7 +47,7 @@ impl Unit {
         put_page(self.packed.as_mut_slice(), PAGE * i, page);
     }
 
-    /// Expands the stream of so many bytes after the length, into at most `size` bytes.
+    /// Expands the stream, the `len` bytes that follow the length field, into at most `size` bytes.
     pub fn expand(&mut self, len: usize, size: usize) -> Result<usize, LzoFault>
         requires len { len ≤ 143352 }
         requires size { size ≤ 131072 }
@@ -61,7 +61,7 @@ impl Unit {
         expand_front(stream, self.bytes.as_mut_slice(), size)
     }
 
-    /// Page i of those that it expanded to.
+    /// Copies page `i` of the expanded bytes into `into`.
     pub fn page(&self, i: usize, into: &mut Page)
         requires { i < 32 }
         ensures { into.new ≡ take 4096 (drop (4096 * i) self.now.bytes.items) }
@@ -69,7 +69,7 @@ impl Unit {
         into.copy_from_slice(&self.bytes.as_slice()[PAGE * i..PAGE * i + PAGE]);
     }
 
-    /// The checksum of the bytes before, and of so many that it expanded to.
+    /// Continues the checksum `before` over the first `size` expanded bytes.
     pub fn checksum(&self, before: u32, size: usize) -> u32
         requires { size ≤ 131072 }
         ensures { result ≡ crc32 before (take size self.now.bytes.items) }
@@ -78,7 +78,7 @@ impl Unit {
     }
 }
 
-/// Puts a page at an offset.
+/// Copies a page to an offset.
 fn put_page(bytes: &mut [u8], at: usize, page: &Page)
     requires { at + 4096 ≤ length bytes.old }
     ensures { take (at + 4096) bytes.new ≡ take at bytes.old ++ page.now }
@@ -86,7 +86,7 @@ fn put_page(bytes: &mut [u8], at: usize, page: &Page)
     bytes[at..at + PAGE].copy_from_slice(page.as_bytes());
 }
 
-/// Expands a stream into the front of some bytes, of so many at most.
+/// Expands a stream into the first `size` bytes, or fewer, of `bytes`.
 fn expand_front(stream: &[u8], bytes: &mut [u8], size: usize) -> Result<usize, LzoFault>
     requires { size ≤ length bytes.old }
     ensures told { let all = expansion size stream.now in result ≡ told (length all.written) all.fault }
@@ -95,7 +95,7 @@ fn expand_front(stream: &[u8], bytes: &mut [u8], size: usize) -> Result<usize, L
     expand(stream, &mut bytes[..size])
 }
 
-/// So many zeros.
+/// Allocates `count` zeros.
 fn zeros(alloc: Global, count: usize) -> Result<Vec<u8>, NoMemory>
     ensures { IfOk result (λ zeros. length zeros.items ≡ count) }
 {

@@ -11,19 +11,19 @@ use image_check::Finding;
 use overlay_disk::Original;
 use page_core::{NoMemory, Page};
 
-/// How many pages a unit has (LZO_UNC_PAGES).
+/// The number of pages of a unit (LZO_UNC_PAGES).
 const PAGES: u64 = 32;
 
-/// How many bytes a page has.
+/// The number of bytes of a page.
 const PAGE: u64 = 4096;
 
-/// How many bytes the length of a unit takes (LZO_HEADER).
+/// The number of bytes of a unit's length (LZO_HEADER).
 const HEADER: u64 = 8;
 
 /// The most bytes that a unit's stream takes.
 const MOST_LENGTH: u64 = 139_333;
 
-/// How many units an image of so many pages has.
+/// Returns how many units an image with `pages` pages has.
 pub fn units_of(pages: u64) -> u64
     requires { pages ≤ 2147483648 }
     ensures { result ≡ units_of pages }
@@ -31,7 +31,7 @@ pub fn units_of(pages: u64) -> u64
     pages.saturating_sub(1).div_ceil(PAGES)
 }
 
-/// How many bytes the pages of a unit have.
+/// Returns how many bytes the pages of a unit have.
 pub fn size_of(pages: u64, unit: u64) -> usize
     requires { unit < 2 ^ 32 }
     ensures size { result ≡ size_of pages unit }
@@ -41,14 +41,14 @@ pub fn size_of(pages: u64, unit: u64) -> usize
     (PAGE * PAGES.min(left)) as usize
 }
 
-/// Whether a unit's stream may have so many bytes.
+/// Returns whether a unit's stream may have `len` bytes.
 pub fn is_length(len: u64) -> bool
     ensures { result ≡ is_length len }
 {
     0 < len && len <= MOST_LENGTH
 }
 
-/// How many pages a unit takes whose stream has so many bytes.
+/// Returns how many pages a unit takes whose stream has `len` bytes.
 pub fn pages_with(len: u64) -> u64
     requires { len ≤ 139333 }
     ensures pages { result ≡ pages_with len }
@@ -58,7 +58,7 @@ pub fn pages_with(len: u64) -> u64
     (HEADER + len).div_ceil(PAGE)
 }
 
-/// Reads the next unit of an image of so many pages, and expands it; or tells what is wrong.
+/// Reads and expands the next unit of an image with `pages` pages, or returns what is wrong with it.
 pub(crate) fn read_unit<B: Walks, K: Original>(
     chain: &mut Chain,
     source: &mut Source<B, K>,
@@ -95,7 +95,7 @@ pub(crate) fn read_unit<B: Walks, K: Original>(
     }
 }
 
-/// Reads so many pages after a unit's first one.
+/// Reads `count` pages after the first page of a unit.
 fn fill<B: Walks, K: Original>(
     chain: &mut Chain,
     source: &mut Source<B, K>,
@@ -120,7 +120,7 @@ fn fill<B: Walks, K: Original>(
     Ok(None)
 }
 
-/// Expands a unit into so many bytes, or tells what is wrong with its stream.
+/// Expands a unit into `size` bytes, or returns what is wrong with its stream.
 fn expand(unit: &mut Unit, number: u64, len: usize, size: usize) -> Option<Finding>
     requires len { len ≤ 139333 }
     requires size { size ≤ 131072 }

@@ -10,7 +10,7 @@ use sector_disk::Disk;
 
 /// A disk that is only read, and in which a walker finds the blocks that an image names.
 pub trait Walks: ReadOnly {
-    /// Lets a walker go on.
+    /// Lets a walker continue.
     fn step(&mut self, walker: &mut Walker, page: &mut Page) -> Option<Visit>
         requires { (Self.state self.old).blocks ≡ walker.old.limits.blocks }
         ensures step { IfSome result (λ visit. (first : ℕ) (h : List Name) → Follows first walker.old h →

@@ -5,6 +5,6 @@ use Rattle.std.specs.Int.{bit_at}
 abbrev pub has_block : List ℕ → ℕ → Bool
 has_block words b = bit_at (slice_index words (b / 64)) (b % 64) == 1
 
--- this block is added, and no other
+-- exactly this block is added
 abbrev pub AddsBlock : ℕ → List ℕ → List ℕ → Type 0
 AddsBlock block old new = (b : ℕ) → has_block new b ≡ ((b == block) || has_block old b)

@@ -1,6 +1,6 @@
--- The blocks that an image names, in the order in which they are read: the first map, its entries, the map of its link,
--- and so on (get_swap_reader, swap_read_page, kernel/power/swap.c). A history is what was named so far, the newest name
--- first.
+-- The blocks that an image names, in the order in which they are read: the first map, its entries, the map that it
+-- links to, and so on (get_swap_reader, swap_read_page, kernel/power/swap.c). A history is what has been named so far,
+-- the newest name first.
 use Rattle.std.specs.Prelude.{◌≡◌, ℕ, ◌+◌, ◌-◌, ◌<◌, Bool, true, false, ◌==◌, ◌||◌, nat_le, nat_lt, List, [], ◌∷◌}
 use Rattle.std.specs.Prelude.{if◌then◌else◌, ⊤, Option, Some, None, Result, Ok, Err}
 use Rattle.std.specs.Option.{IfSome}
@@ -11,7 +11,7 @@ use Rattle.image_walk.specs.declared.limits.Limits.{Limits}
 use Rattle.image_walk.specs.declared.visit.BlockFault.{BlockFault}
 use Rattle.image_walk.specs.declared.visit.BlockFault.TheVariants as fault
 
--- a block that the header or a link names as a map, or that an entry names, and its page, or why there is none
+-- a block that the header or a link names as a map, or an entry as a page; with its content, or why it has none
 pub data Name : Type 0 where
   map_at : (b : ℕ) → (answer : Result (List ℕ) BlockFault) → Name
   page_at : (b : ℕ) → (answer : Result (List ℕ) BlockFault) → Name
@@ -20,7 +20,7 @@ abbrev pub block_of : Name → ℕ
 block_of (map_at b answer) = b
 block_of (page_at b answer) = b
 
--- what is known of a block: its page, or why there is none
+-- what is known of a block: its page, or why it has none
 abbrev pub seen : Result (Unit {0}) BlockFault → List ℕ → Result (List ℕ) BlockFault
 seen (Ok done) page = Ok page
 seen (Err why) page = Err why
@@ -47,14 +47,14 @@ newest_page (map_at b (Ok page) ∷ h) = page
 newest_page (map_at b (Err why) ∷ h) = []
 newest_page (page_at b answer ∷ h) = newest_page h
 
--- how many of its 511 entries weren't read yet
+-- how many of the newest map's 511 entries haven't been read yet
 abbrev pub left_in : List Name → ℕ
 left_in [] = 0
 left_in (map_at b (Ok page) ∷ h) = 511
 left_in (map_at b (Err why) ∷ h) = 0
 left_in (page_at b answer ∷ h) = left_in h - 1
 
--- the block that is named as the next map: by the header, or by the link of the newest map
+-- the block that is named as the next map: by the header, or by the newest map's link
 abbrev pub next_map : ℕ → List Name → ℕ
 next_map first [] = first
 next_map first (map_at b (Ok page) ∷ h) = map_link page
@@ -74,7 +74,7 @@ is_named b h = list_any (λ x. b == block_of x) h
 abbrev pub is_bad : Limits → ℕ → Bool
 is_bad l b = list_any (λ x. x == b) l.bad
 
--- why a block isn't read that is named after a history: each block is read once
+-- why a block that is named after a history isn't read: each block is read at most once
 abbrev pub fault_of : Limits → List Name → ℕ → Option BlockFault
 fault_of l h b =
     if b == 0 then Some fault.Zero
@@ -84,13 +84,13 @@ fault_of l h b =
     else if (b == l.header) || is_named b h then Some (fault.Again b)
     else None
 
--- a block without a fault has a page, unless the read of it fails
+-- a block without a fault has a page, unless its read fails
 abbrev pub IsAnswer : Option BlockFault → ℕ → Result (List ℕ) BlockFault → Type 0
 IsAnswer (Some why) b answer = answer ≡ Err why
 IsAnswer None b (Ok page) = ⊤
 IsAnswer None b (Err why) = why ≡ fault.Unread b
 
--- A name follows a history: an entry where the newest map has one left, else the next map, unless the chain has ended.
+-- A name follows a history: an entry if the newest map has one left, else the next map, unless the chain has ended.
 abbrev pub IsNext : Limits → ℕ → List Name → Name → Type 0
 IsNext l first h (map_at b answer) =
     (left_in h ≡ 0) × (is_over h ≡ false) × (b ≡ next_map first h) × IsAnswer (fault_of l h b) b answer
@@ -102,7 +102,7 @@ abbrev pub IsReading : Limits → ℕ → List Name → Type 0
 IsReading l first [] = ⊤
 IsReading l first (x ∷ h) = IsReading l first h × IsNext l first h x
 
--- a page is what the disk holds, where that is told
+-- a page is what the disk holds, if the disk's content is known
 abbrev pub IsReadFrom : Option Content → ℕ → Result (List ℕ) BlockFault → Type 0
 IsReadFrom content b (Ok page) = IfSome content (λ held. page ≡ block (as_it_reads held) b)
 IsReadFrom content b (Err why) = ⊤

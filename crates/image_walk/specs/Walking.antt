@@ -1,4 +1,4 @@
--- What a walk keeps of a history, and what a step of it shows.
+-- What a walk keeps of a history, and what a step of a walk shows.
 use Rattle.std.specs.Prelude.{◌≡◌, ℕ, ◌+◌, ◌*◌, ◌-◌, ◌<◌, nat_lt, min, true, List, ◌∷◌, Option, Some, None, Result, Ok}
 use Rattle.std.specs.Prelude.{Err}
 use Rattle.std.specs.Prelude.{if◌then◌else◌}
@@ -16,7 +16,7 @@ use Rattle.image_walk.specs.declared.walk.Named.{Named}
 use Rattle.image_walk.specs.declared.walk.Walk.{Walk}
 use Rattle.image_walk.specs.declared.walker.Walker.{Walker}
 
--- the walk has come to the end of the history, and the set has the blocks that may not be named again
+-- the walk is at the end of the history, and the set has the blocks that may not be named again
 pub record Stands (l : Limits) (first : ℕ) (k : Walk) (words : List ℕ) (h : List Name) : Type 0 where
   pub reading : IsReading l first h
   pub taken : IsTaken l words h
@@ -27,23 +27,23 @@ pub record Stands (l : Limits) (first : ℕ) (k : Walk) (words : List ℕ) (h : 
   pub next : k.next ≡ next_map first h
   pub over : k.over ≡ is_over h
 
--- the walker has come to the end of the history
+-- the walker is at the end of the history
 abbrev pub Follows : ℕ → Walker → List Name → Type 0
 Follows first w h = Stands w.limits first w.walk w.named.items h
 
--- the block that is named next: by an entry of the newest map, or else by its link, unless the chain has ended
+-- the block that is named next: by an entry of the newest map, or else by the map's link, unless the chain has ended
 abbrev pub block_asked : Walk → Option ℕ
 block_asked k =
     if nat_lt k.entry 511 then Some (map_entry k.map k.entry)
     else if k.over then None
     else Some k.next
 
--- a block without a fault is one of the disk's, and no fault is that of a read
+-- a block without a fault is one of the disk's, and a fault isn't that of a read
 pub record IsAsked (blocks : ℕ) (n : Named) : Type 0 where
   pub inside : n.fault ≡ None → n.block < blocks
   pub other : (b : ℕ) → n.fault ≡ Some (fault.Unread b) → ⊥
 
--- after a map that was read come its entries; after one that wasn't, nothing
+-- the walk after a map: its entries come next if it was read, and nothing if it wasn't
 abbrev pub opened : List ℕ → Walk → Walk
 opened page k = record k { map = page; entry = 0; next = map_link page }
 
@@ -62,31 +62,31 @@ abbrev pub name_of : Visit → List ℕ → Name
 name_of (visit.Map number b answer) page = map_at b (seen answer page)
 name_of (visit.Entry number at index b answer) page = page_at b (seen answer page)
 
--- the place of that name: the number of its map, and of an entry the map's block and which of its entries it is
+-- the place of that name: for a map its number, for an entry its map's number and block and the entry's index
 abbrev pub IsPlaced : List Name → Visit → Type 0
 IsPlaced h (visit.Map number b answer) = number ≡ maps_in h + 1
 IsPlaced h (visit.Entry number at index b answer) =
     (number ≡ maps_in h) × (at ≡ newest_map h) × (index ≡ 511 - left_in h)
 
--- a name is the next one, with the page that the disk holds; a page that isn't read is a fault of the disk
+-- a name is the next one, with the page that the disk holds; if its read failed, the disk has counted a fault
 pub record IsSeen (l : Limits) (first : ℕ) (content : Option Content) (before now : ℕ) (h : List Name)
     (x : Name) : Type 0 where
   pub next : IsNext l first h x
   pub page : IsReadFrom content (block_of x) (answer_of x)
   pub unread : is_unread (answer_of x) ≡ true → HasRisen before now
 
--- how many names there may be yet
+-- how many more names there may be
 abbrev pub walk_left : Limits → Walk → ℕ
 walk_left l k = 512 * (l.blocks + 1 - k.maps) + (511 - k.entry)
 
 abbrev pub names_left : Walker → ℕ
 names_left w = walk_left w.limits w.walk
 
--- how many names there may be yet without one that is read
+-- how many more names there may be if none of them is read
 abbrev pub unread_left : Walk → ℕ
 unread_left k = (511 - k.entry) + (if k.over then 0 else 1)
 
--- a walk takes the next name, which is that of a block, and what came of it
+-- a walk takes the next name, which is block b's, with the outcome of its read
 pub record Takes (l : Limits) (first : ℕ) (h : List Name) (b : ℕ) (told : Result (Unit {0}) BlockFault) (old new : Walk)
     (words : List ℕ) (v : Visit) (page : List ℕ) : Type 0 where
   pub next : IsNext l first h (name_of v page)

@@ -2,7 +2,7 @@
 ghost use Rattle.std.specs.Prelude.{◌≡◌, ℕ, ◌*◌, ◌<◌, false, length};
 ghost use Rattle.image_walk.specs.BlockSets.{has_block, AddsBlock};
 
-/// Whether a set has a block.
+/// Returns whether a set has a block.
 pub(crate) fn has_block(words: &[u64], block: u32) -> bool
     requires { block < 64 * length words.now }
     ensures { result ≡ has_block words.now block }
@@ -23,7 +23,7 @@ pub(crate) fn add_block(words: &mut [u64], block: u32)
     words[index] = word | mask;
 }
 
-/// Takes each block out of a set.
+/// Removes every block from a set.
 pub(crate) fn clear(words: &mut [u64])
     ensures empty { (b : ℕ) → has_block words.new b ≡ false }
     ensures room { length words.new ≡ length words.old }

@@ -1,5 +1,4 @@
-//! The blocks that an image names, one after another: the maps of its chain and the pages of their entries, as a disk
-//! reads.
+//! Walks along the blocks that an image names, as a disk reads: the maps of its chain, and the pages of their entries.
 #![tactic(auto)]
 
 mod block_set;

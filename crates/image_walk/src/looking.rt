@@ -1,4 +1,4 @@
-//! The read of a block that is named.
+//! Reads a block that is named.
 ghost use Rattle.std.specs.Prelude.{◌≡◌, ◌<◌, ◌≤◌, true, None};
 ghost use Rattle.definitions.specs.Disk.{HasRisen};
 ghost use Rattle.image_walk.specs.Names.{IsAnswer, IsReadFrom, is_unread, seen};
@@ -9,7 +9,7 @@ use crate::walk::Named;
 use page_core::Page;
 use sector_disk::Disk;
 
-/// Reads a block that is named, if it may be read.
+/// Reads a named block into `into`, if it may be read.
 pub(crate) fn look<D: Disk>(disk: &mut D, named: Named, into: &mut Page) -> Result<(), BlockFault>
     requires { IsAsked (D.block_count disk.old) named }
     ensures answer { IsAnswer named.fault named.block (seen result into.new) }

@@ -1,4 +1,4 @@
-//! A block that is named: whether it may be read, and that it was named.
+//! Decides whether a named block may be read, and remembers which blocks were named.
 ghost use Rattle.std.specs.Prelude.{◌≡◌, ◌*◌, ◌<◌, ◌≤◌, ◌∷◌, [], List, None, Some, length};
 ghost use Rattle.image_walk.specs.Names.{Name, block_of, fault_of};
 ghost use Rattle.image_walk.specs.Taken.{HasBlocks, IsTaken};
@@ -7,7 +7,7 @@ ghost use Rattle.image_walk.specs.declared.visit.BlockFault.TheVariants.{Unread}
 use crate::block_set::{add_block, clear, has_block};
 use crate::{BlockFault, Limits};
 
-/// Why a block isn't read.
+/// Returns why a block may not be read, if it may not.
 pub(crate) fn fault(limits: &Limits, named: &[u64], block: u64) -> Option<BlockFault>
     requires { limits.now.blocks ≤ 64 * length named.now }
     ensures fault { (h : List Name) → IsTaken limits.now named.now h → result ≡ fault_of limits.now h block }
@@ -34,7 +34,7 @@ pub(crate) fn fault(limits: &Limits, named: &[u64], block: u64) -> Option<BlockF
     })
 }
 
-/// Keeps that a block was named.
+/// Records that a block was named.
 pub(crate) fn remember(limits: &Limits, named: &mut [u64], block: u64)
     requires { limits.now.blocks ≤ 64 * length named.old }
     ensures taken { (h : List Name) (x : Name) → block_of x ≡ block → IsTaken limits.now named.old h →
@@ -46,7 +46,7 @@ pub(crate) fn remember(limits: &Limits, named: &mut [u64], block: u64)
     }
 }
 
-/// Leaves in a set the blocks that no image may name: the bad pages, and the header's block.
+/// Fills the set with the blocks that no image may name: the bad pages, and the header's block.
 pub(crate) fn reserve(limits: &Limits, named: &mut [u64])
     requires { limits.now.blocks ≤ 64 * length named.old }
     ensures taken { IsTaken limits.now named.new [] }
@@ -59,7 +59,7 @@ pub(crate) fn reserve(limits: &Limits, named: &mut [u64])
     }
 }
 
-/// Adds those of some blocks that are below a number to the empty set.
+/// Adds each of `members` that is below `blocks` to the empty set.
 fn add_below(named: &mut [u64], blocks: u32, members: &[u32])
     requires { HasBlocks blocks [] named.old }
     ensures has { HasBlocks blocks members.now named.new }

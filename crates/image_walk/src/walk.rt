@@ -2,31 +2,31 @@ use crate::naming::{fault, remember, reserve};
 use crate::{BlockFault, Limits, Visit};
 use page_core::Page;
 
-/// How many entries a map page has (MAP_PAGE_ENTRIES). The link is the word after them.
+/// The entries of a map page (MAP_PAGE_ENTRIES). The link is the word after them.
 const ENTRIES: usize = 511;
 
-/// The block that is named next, and why it may not be read, where it may not.
+/// The block that is named next, and the reason if it may not be read.
 #[derive(Clone, Copy, Debug, PartialEq, Eq)]
 pub struct Named {
     pub block: u64,
     pub fault: Option<BlockFault>,
 }
 
-/// Where a walk along the blocks that an image names stands: a value of fixed size. The set of the blocks that may not
-/// be named again is lent to each call, a bit for each block, with the same limits. Its fields are public so that a
-/// caller can keep it in a form of his own.
+/// The position of a walk along the blocks that an image names: a value of fixed size. The set of the blocks that may
+/// not be named again, one bit for each block, is lent to each call, with the same limits. The fields are public so
+/// that a caller can keep a walk in a form of its own.
 #[derive(Drop)]
 pub struct Walk {
-    /// How many maps were named.
+    /// The number of maps named so far.
     pub maps: u32,
     /// The block of the newest map, and its page.
     pub at: u64,
     pub map: Page,
-    /// Its next entry; 511 and more where none is left.
+    /// The newest map's next entry; 511 or more if none is left.
     pub entry: usize,
     /// The block of the next map.
     pub next: u64,
-    /// The newest map wasn't read, so none follows.
+    /// Whether the newest map wasn't read, so that no map follows.
     pub over: bool,
 }
 
@@ -38,7 +38,7 @@ impl Walk {
     ghost use Rattle.image_walk.specs.Walking.{unread_left};
     ghost use Rattle.image_walk.specs.declared.visit.Visit.TheVariants.{Entry, Map};
 
-    /// A walk before the first map, which the header names. Whatever the set had is cleared.
+    /// Begins a walk before the first map, which the header names. Clears what the set had.
     pub fn begin(limits: &Limits, named: &mut [u64], first: u64) -> Walk
         requires { limits.now.blocks ≤ 64 * length named.old }
         ensures start { Stands limits.now first result named.new [] }
@@ -55,7 +55,7 @@ impl Walk {
         }
     }
 
-    /// The same place.
+    /// Returns a copy, a walk at the same position.
     pub(crate) fn copy(&self) -> Walk
         ensures { result ≡ self.now }
     {
@@ -69,7 +69,7 @@ impl Walk {
         }
     }
 
-    /// The block that is named next. None is named after a map that wasn't read.
+    /// Returns the block that is named next. No block is named after a map that wasn't read.
     pub fn ask(&self, limits: &Limits, named: &[u64]) -> Option<Named>
         requires { limits.now.blocks ≤ 64 * length named.now }
         ensures asked { IfSome result (λ n. (first : ℕ) (h : List Name) → Stands limits.now first self.now named.now h →
@@ -86,7 +86,7 @@ impl Walk {
         })
     }
 
-    /// Goes on after the block that is named next, by what came of it: where it was read, with its page.
+    /// Moves past the block that is named next, given the outcome of its read, and its page if it was read.
     pub fn take(
         &mut self,
         limits: &Limits,

@@ -7,14 +7,14 @@ use page_core::{NoMemory, Page};
 use sector_disk::Disk;
 use std::alloc::Global;
 
-/// How many words of 64 bits a set of the blocks below a number takes.
+/// Returns how many words of 64 bits a set of the blocks below `blocks` takes.
 pub fn words_for(blocks: u32) -> usize
     ensures { result ≡ blocks / 64 + 1 }
 {
     blocks as usize / 64 + 1
 }
 
-/// Reads the blocks that an image names, each once, in the order of a resume's reads.
+/// A reader of the blocks that an image names: each once, in the order of a resume's reads.
 #[derive(Drop)]
 pub struct Walker {
     limits: Limits,
@@ -28,7 +28,7 @@ impl Walker {
     ghost use Rattle.image_walk.specs.Names.{Name, is_over};
     ghost use Rattle.image_walk.specs.Walking.{Follows, StepsTo};
 
-    /// A walker before the first map, which the header names.
+    /// Makes a walker before the first map, which the header names.
     pub fn begin(alloc: Global, limits: &Limits, first: u64) -> Result<Walker, NoMemory>
         ensures limits { IfOk result (λ w. w.limits ≡ limits.now) }
         ensures start { IfOk result (λ w. Follows first w []) }
@@ -42,7 +42,7 @@ impl Walker {
         })
     }
 
-    /// A second walker at the same place, which goes on by itself.
+    /// Makes a second walker at the same place, which goes on independently.
     pub fn fork(&self) -> Result<Walker, NoMemory>
         ensures limits { IfOk result (λ w. w.limits ≡ self.now.limits) }
         ensures place { IfOk result (λ w. (first : ℕ) (h : List Name) → Follows first self.now h → Follows first w h) }
@@ -54,7 +54,7 @@ impl Walker {
         })
     }
 
-    /// Goes on to the next block that is named, and reads it into `page`. The chain ends behind a map that isn't read.
+    /// Moves to the next named block, and reads it into `page`. The chain ends after a map that isn't read.
     pub fn step<D: Disk>(&mut self, disk: &mut D, page: &mut Page) -> Option<Visit>
         requires { D.block_count disk.old ≡ self.old.limits.blocks }
         ensures step { IfSome result (λ visit. (first : ℕ) (h : List Name) → Follows first self.old h →

@@ -14,7 +14,7 @@ area_app name = with_rule (with_rule (new_app name) offset_rule) swap_rule
 abbrev pub json_rule : Rule
 json_rule = record (new_rule (codes "json")) { long = Some (codes "json"); action = Some SetTrue }
 
--- a command with an area, and a form
+-- a command with an area and a form
 abbrev pub formed_app : List ℕ → App
 formed_app name = with_rule (area_app name) json_rule
 
@@ -78,28 +78,28 @@ tables_rule = record (new_rule (codes "tables")) {
 abbrev pub machine_app : App
 machine_app = with_rule (dump_app (codes "machine")) tables_rule
 
--- the program, which has a version and wants one of the commands
+-- the program, which has a version and requires one of the commands
 abbrev pub program_app : App
 program_app =
     on_top (λ top. record top { has_version = true; subcommand_required = true }) (new_app (codes "swsusp_image"))
 
--- with the commands that tell what an area holds
+-- the program with the commands that report what an area holds
 abbrev pub with_tellers : App → App
 with_tellers app =
     with_subcommand (with_subcommand app (formed_app (codes "check")).top) (formed_app (codes "show")).top
 
--- with those that write what an image holds
+-- the program with the commands that write what an image holds
 abbrev pub with_writers : App → App
 with_writers app =
     with_subcommand
     (with_subcommand (with_subcommand app (area_app (codes "stream")).top) page_app.top)
     (area_app (codes "core")).top
 
--- with those that compare images and give them up
+-- the program with the commands that compare images and give them up
 abbrev pub with_enders : App → App
 with_enders app = with_subcommand (with_subcommand app differ_app.top) (area_app (codes "discard")).top
 
--- with those that make dumps
+-- the program with the commands that make dumps
 abbrev pub with_makers : App → App
 with_makers app = with_subcommand (with_subcommand app loader_app.top) machine_app.top
 

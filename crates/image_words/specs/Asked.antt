@@ -1,4 +1,4 @@
--- A command as it is asked for.
+-- A command as it is requested.
 use Rattle.std.specs.Prelude.{Bool, true, false}
 use Rattle.image_words.specs.Words.{Asked, SwapArea, check, show, stream, page, core, differ, discard}
 use Rattle.image_words.specs.declared.command.Area.{Area}
@@ -14,7 +14,7 @@ abbrev pub is_json : Form → Bool
 is_json Lines = false
 is_json Json = true
 
--- with the form in which something of it is printed
+-- an area, with the form of what is printed of it
 abbrev pub formed_by : Area × Form → Bool × SwapArea
 formed_by formed = (is_json formed.1, area_by formed.0)
 

@@ -18,7 +18,7 @@ help_flags = codes "--help" ∷ codes "-h" ∷ []
 abbrev pub version_flags : List (List ℕ)
 version_flags = codes "--version" ∷ codes "-V" ∷ []
 
--- after the program's name stands a flag for help or the version, or a command and a flag for its help
+-- a flag for help or the version, or a command and a flag for its help, follows the program's name
 abbrev pub asks_help : List (List ℕ) → Bool
 asks_help [] = false
 asks_help (name ∷ []) = false

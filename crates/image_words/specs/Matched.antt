@@ -12,7 +12,7 @@ area_in rows =
     (λ swap. option_map (λ offset. record { swap = swap; offset = offset }) (number_at 32 (codes "offset") rows))
     (swap_in rows)
 
--- with whether --json stands there
+-- the area, with whether --json is given
 abbrev pub formed_in : List Row → Option (Bool × SwapArea)
 formed_in rows =
     option_and_then (λ area. option_map (λ json. (json, area)) (flag_at (codes "json") rows)) (area_in rows)
@@ -43,6 +43,6 @@ abbrev pub asked_in : Option (Text × List Row) → Option Asked
 asked_in None = None
 asked_in (Some (name, rows)) = matched_by name rows
 
--- the answer is what is asked for, where anything is
+-- the answer is what is asked for, if anything is
 abbrev pub Answers : {A B : Type 0} → (B → A) → Option A → Option B → Type 0
 Answers {A} asked_by asked answer = (x : A) → asked ≡ Some x → option_map asked_by answer ≡ Some x

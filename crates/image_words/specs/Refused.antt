@@ -1,4 +1,4 @@
--- What an answer says that is no command.
+-- What an answer says that isn't a command.
 use Rattle.std.specs.Prelude.{◌≡◌, ◌≢◌, ◌⊎◌, List, ℕ, None, false, true, codes, string_bytes, ⊤}
 use Rattle.clap.specs.Faults.{fault_of}
 use Rattle.clap.specs.Kinds.{IsAmong}
@@ -11,13 +11,13 @@ use Rattle.image_words.specs.Words.{command_of}
 use Rattle.image_words.specs.declared.unparsed.Unparsed.{Unparsed}
 use Rattle.image_words.specs.declared.unparsed.Unparsed.TheVariants as unparsed
 
--- a text is told of a list that isn't plain alone
+-- a text is given only for a list that isn't plain
 abbrev pub IsRefusedBy : List (List ℕ) → Unparsed → Type 0
 IsRefusedBy words (unparsed.Help text) = command_of words ≡ None
 IsRefusedBy words (unparsed.Words text) = command_of words ≡ None
 IsRefusedBy words unparsed.NoMemory = ⊤
 
--- the line that is told of a list that clap takes and that isn't plain
+-- the line for a list that clap takes but that isn't plain
 abbrev pub not_plain : List ℕ
 not_plain =
     codes "words: options go before SWAP, SWAP isn't empty nor begins with -, numbers have no sign or leading zero\n"
@@ -27,18 +27,18 @@ SaysWords words (unparsed.Help text) = takes image_app words ≡ true → ⊥
 SaysWords words (unparsed.Words text) = takes image_app words ≡ true → string_bytes text ≡ not_plain
 SaysWords words unparsed.NoMemory = ⊤
 
--- a kind of clap's errors is told as help or the version, and another as what is wrong
+-- clap's errors for help and the version become Help, and all others become Words
 abbrev pub Tells : ErrorKind → Unparsed → Type 0
 Tells error (unparsed.Help text) = (error ≡ kind.DisplayHelp) ⊎ (error ≡ kind.DisplayVersion)
 Tells error (unparsed.Words text) = (error ≢ kind.DisplayHelp) × (error ≢ kind.DisplayVersion)
 Tells error unparsed.NoMemory = ⊤
 
--- clap may answer the list by help or the version
+-- clap may answer the list with help or the version
 abbrev pub MayAskHelp : List (List ℕ) → Type 0
 MayAskHelp words =
     IsAmong kind.DisplayHelp (fault_of image_app words) ⊎ IsAmong kind.DisplayVersion (fault_of image_app words)
 
--- a list that asks for help or the version gets it, and none that clap answers otherwise
+-- a list that asks for help or the version gets it, and only a list that clap may answer with one of them does
 abbrev pub GivesHelp : List (List ℕ) → Unparsed → Type 0
 GivesHelp words (unparsed.Help text) = MayAskHelp words
 GivesHelp words (unparsed.Words text) = asks_help words ≡ false

@@ -1,4 +1,4 @@
--- Which words a command is spelled by.
+-- Which words spell a command.
 use Rattle.std.specs.Prelude.{◌≡◌, ◌<◌, ◌^◌, ◌⊎◌, ℕ, Bool, true, false, List, [], ◌∷◌, codes, decimal}
 use Rattle.swsusp_words.specs.Words.{is_path}
 use Rattle.image_words.specs.Words.{Asked, SwapArea, check, show, stream, page, core, differ, discard}
@@ -17,25 +17,25 @@ IsValid (core area) = IsArea area
 IsValid (differ first_only area other) = IsArea area × (is_path other ≡ true)
 IsValid (discard area) = IsArea area
 
--- the words are a command's name, perhaps the offset, which is else 0, the path, and the command's own
+-- the words are a command's name, the offset unless it is 0 and left out, the path, and the command's own words
 abbrev pub IsSpelledOver : SwapArea → List ℕ → List (List ℕ) → List (List ℕ) → Type 0
 IsSpelledOver area name own words =
     ((area.offset ≡ 0) × (words ≡ name ∷ area.swap ∷ own))
     ⊎ (words ≡ name ∷ codes "--offset" ∷ decimal area.offset ∷ area.swap ∷ own)
 
--- with a flag before or after the offset
+-- the same with a flag before or after the offset
 abbrev pub IsSpelledFlagged : SwapArea → List ℕ → List ℕ → List (List ℕ) → List (List ℕ) → Type 0
 IsSpelledFlagged area name flag own words =
     ((area.offset ≡ 0) × (words ≡ name ∷ flag ∷ area.swap ∷ own))
     ⊎ ((words ≡ name ∷ flag ∷ codes "--offset" ∷ decimal area.offset ∷ area.swap ∷ own)
     ⊎ (words ≡ name ∷ codes "--offset" ∷ decimal area.offset ∷ flag ∷ area.swap ∷ own))
 
--- with the flag, or without it
+-- the same with the flag, or without it
 abbrev pub IsSpelledWith : Bool → SwapArea → List ℕ → List ℕ → List (List ℕ) → List (List ℕ) → Type 0
 IsSpelledWith false area name flag own words = IsSpelledOver area name own words
 IsSpelledWith true area name flag own words = IsSpelledFlagged area name flag own words
 
--- the words after the program's name are this command's
+-- the words after the program's name spell this command
 abbrev pub IsSpelled : Asked → List (List ℕ) → Type 0
 IsSpelled (check json area) words = IsSpelledWith json area (codes "check") (codes "--json") [] words
 IsSpelled (show json area) words = IsSpelledWith json area (codes "show") (codes "--json") [] words

@@ -19,7 +19,7 @@ pub data Asked : Type 0 where
   differ : (first_only : Bool) (area : SwapArea) (other : List ℕ) → Asked
   discard : (area : SwapArea) → Asked
 
--- [--offset N], where N has 32 bits: the number, without the option 0, and the words after it
+-- [--offset N], where N has 32 bits: the number, which is 0 without the option, and the words after it
 abbrev pub offset_first : List (List ℕ) → Option (ℕ × List (List ℕ))
 offset_first [] = Some (0, [])
 offset_first (word ∷ []) = Some (0, word ∷ [])
@@ -28,26 +28,26 @@ offset_first (word ∷ number ∷ words) =
     then option_map (λ offset. (offset, words)) (plain_number (2 ^ 32) number)
     else Some (0, word ∷ number ∷ words)
 
--- SWAP, in an area with this offset, and what a command makes of the area and the words after it
+-- SWAP, in an area with this offset: what a command makes of the area and the words after it
 abbrev pub over_path : (SwapArea → List (List ℕ) → Option Asked) → ℕ → List (List ℕ) → Option Asked
 over_path ask offset [] = None
 over_path ask offset (swap ∷ words) = if is_path swap then ask (record { swap = swap; offset = offset }) words else None
 
--- [--offset N] SWAP, and what a command makes of the area and the words after it
+-- [--offset N] SWAP: what a command makes of the area and the words after it
 abbrev pub over_area : (SwapArea → List (List ℕ) → Option Asked) → List (List ℕ) → Option Asked
 over_area ask words = option_and_then (λ rest. over_path ask rest.0 rest.1) (offset_first words)
 
--- this, where no word follows
+-- this request, if no word follows
 abbrev pub alone : Asked → List (List ℕ) → Option Asked
 alone asked [] = Some asked
 alone asked (word ∷ words) = None
 
--- a flag, which may stand at the begin, and the words after it
+-- whether the words begin with a flag, and the words after it
 abbrev pub flag_first : List ℕ → List (List ℕ) → Bool × List (List ℕ)
 flag_first flag [] = (false, [])
 flag_first flag (word ∷ words) = if pointwise nat_eq word flag then (true, words) else (false, word ∷ words)
 
--- [--offset N] and then [FLAG] SWAP, and what a command makes of the flag, the area and the words after it
+-- [--offset N] and then [FLAG] SWAP: what a command makes of the flag, the area and the words after it
 abbrev pub after_offset : List ℕ → (Bool → SwapArea → List (List ℕ) → Option Asked) → List (List ℕ) → Option Asked
 after_offset flag ask words =
     option_and_then
@@ -71,7 +71,7 @@ page_of area [] = None
 page_of area (number ∷ []) = option_map (λ frame. page area frame) (plain_number (2 ^ 64) number)
 page_of area (number ∷ more ∷ words) = None
 
--- what a command asks for with its own words
+-- what a command asks for with the words that follow it
 abbrev pub command_by : List ℕ → List (List ℕ) → Option Asked
 command_by command words =
     if pointwise nat_eq command (codes "check")
@@ -85,7 +85,7 @@ command_by command words =
     else if pointwise nat_eq command (codes "discard") then over_area (λ area. alone (discard area)) words
     else None
 
--- What a plain list of words asks for: the program's name, a command, and that command's own. No other list parses.
+-- What a plain list of words asks for: the program's name, a command, and its own words. No other list parses.
 abbrev pub command_of : List (List ℕ) → Option Asked
 command_of [] = None
 command_of (name ∷ []) = None

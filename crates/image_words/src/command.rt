@@ -12,7 +12,7 @@ pub struct Area<'a> {
     pub offset: u32,
 }
 
-/// In which form something is printed.
+/// The form in which something is printed.
 #[derive(Clone, Copy, Debug, PartialEq, Eq)]
 pub enum Form {
     /// In lines.
@@ -24,7 +24,7 @@ pub enum Form {
 /// What the program is asked to do with the image of a swap area.
 #[derive(Clone, Copy)]
 pub enum Command<'a> {
-    /// Tells what is wrong with it.
+    /// Reports what is wrong with the image.
     Check {
         area: Area<'a>,
         form: Form,
@@ -34,7 +34,7 @@ pub enum Command<'a> {
         area: Area<'a>,
         form: Form,
     },
-    /// Writes it as a stream of bytes.
+    /// Writes the image as a stream of bytes.
     Stream(Area<'a>),
     /// Writes the saved page of a page frame.
     Page {
@@ -42,17 +42,17 @@ pub enum Command<'a> {
         /// The number of the page frame.
         frame: u64,
     },
-    /// Writes it as a core file of its machine's memory.
+    /// Writes the image as a core file of its machine's memory.
     Core(Area<'a>),
-    /// Tells where it differs from that of another area.
+    /// Reports where the image differs from that of another area.
     Differ {
         area: Area<'a>,
         /// The path of the other area, whose header is in the block of the same number.
         other: &'a str,
-        /// Whether the first difference alone is told.
+        /// Whether only the first difference is reported.
         first_only: bool,
     },
-    /// Takes its mark back.
+    /// Takes the image's mark back.
     Discard(Area<'a>),
 }
 
@@ -62,10 +62,10 @@ impl<'a> Command<'a> {
     ghost use Rattle.image_words.specs.Refused.{GivesHelp, IsRefusedBy, SaysWords};
     ghost use Rattle.image_words.specs.Words.{command_of};
 
-    /// The command of a plain list of words, of which the first is the program's name. No other list parses, also where
-    /// clap takes it: clap's options may stand anywhere, and its numbers may have a sign and zeros before them. Such a
-    /// list gets a line that says so, one that asks for help or the version gets that, and any other what clap says of
-    /// it.
+    /// Reads the command of a plain list of words, whose first is the program's name. No other list parses, even if
+    /// clap takes it: clap's options may stand anywhere, and its numbers may have a sign and leading zeros. The error
+    /// for such a list is a line that says so. A list that asks for help or the version gets that, and any other list
+    /// gets what clap says of it.
     pub fn parse(alloc: Global, words: &'a [String]) -> Result<Command<'a>, Unparsed>
         ensures asks { IfOk result (λ command. command_of (map string_bytes words.now) ≡ Some (asked_by command)) }
         ensures refused { IfErr result (IsRefusedBy (map string_bytes words.now)) }

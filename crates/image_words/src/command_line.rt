@@ -9,7 +9,7 @@ use crate::details;
 use clap::{Arg, ArgAction, Command, value_parser};
 use std::alloc::{AllocError, Global};
 
-/// The commands as clap knows them.
+/// Makes the commands as clap knows them.
 pub(crate) fn command_line<'a>(alloc: Global) -> Result<Command<'a>, AllocError>
     ensures { IfOk result (IsApp image_app) }
 {
@@ -27,7 +27,7 @@ pub(crate) fn command_line<'a>(alloc: Global) -> Result<Command<'a>, AllocError>
     with_makers(alloc, ending)
 }
 
-/// The program with the commands that tell what an area holds.
+/// Adds the commands that report what an area holds to the program.
 fn with_tellers<'a>(alloc: Global, program: Command<'a>) -> Result<Command<'a>, AllocError>
     ensures { (app : App) → IsApp app program.entry → IfOk result (IsApp (with_tellers app)) }
 {
@@ -46,7 +46,7 @@ fn with_tellers<'a>(alloc: Global, program: Command<'a>) -> Result<Command<'a>, 
         )?)
 }
 
-/// The program with those that write what an image holds.
+/// Adds the commands that write what an image holds to the program.
 fn with_writers<'a>(alloc: Global, program: Command<'a>) -> Result<Command<'a>, AllocError>
     ensures { (app : App) → IsApp app program.entry → IfOk result (IsApp (with_writers app)) }
 {
@@ -66,7 +66,7 @@ fn with_writers<'a>(alloc: Global, program: Command<'a>) -> Result<Command<'a>, 
         )?)
 }
 
-/// The program with those that compare images and give them up.
+/// Adds the commands that compare images and give them up to the program.
 fn with_enders<'a>(alloc: Global, program: Command<'a>) -> Result<Command<'a>, AllocError>
     ensures { (app : App) → IsApp app program.entry → IfOk result (IsApp (with_enders app)) }
 {
@@ -80,7 +80,7 @@ fn with_enders<'a>(alloc: Global, program: Command<'a>) -> Result<Command<'a>, A
         )?)
 }
 
-/// The program with those that make dumps.
+/// Adds the commands that make dumps to the program.
 fn with_makers<'a>(alloc: Global, program: Command<'a>) -> Result<Command<'a>, AllocError>
     ensures { (app : App) → IsApp app program.entry → IfOk result (IsApp (with_makers app)) }
 {
@@ -89,7 +89,7 @@ fn with_makers<'a>(alloc: Global, program: Command<'a>) -> Result<Command<'a>, A
         .subcommand(machine(alloc)?)
 }
 
-/// A command with its name, what it does, and the rest of its help.
+/// Makes a command with its name, what it does, and the rest of its help.
 fn named<'a>(alloc: Global, name: &'a str, about: &'a str, details: &'a str) -> Command<'a>
     ensures { IsApp (new_app name.entry.now) result }
 {
@@ -118,7 +118,7 @@ fn swap_argument<'a>(alloc: Global) -> Arg<'a>
         .help("A swap file or a block device")
 }
 
-/// Such a command, with a swap area.
+/// Makes a command over a swap area.
 fn over_area<'a>(
     alloc: Global,
     name: &'a str,
@@ -132,7 +132,7 @@ fn over_area<'a>(
         .arg(swap_argument(alloc))
 }
 
-/// Such a command, which prints in lines or as JSON.
+/// Makes a command over a swap area that prints in lines or as JSON.
 fn in_form<'a>(
     alloc: Global,
     name: &'a str,
@@ -242,7 +242,7 @@ fn extent_argument<'a>(alloc: Global) -> Arg<'a>
         .help("An extent of the area, one of up to 64")
 }
 
-/// A command whose options say where page frames and slots lie, and may be repeated.
+/// Makes a command whose options say where page frames and slots lie, and may be repeated.
 fn over_layout<'a>(
     alloc: Global,
     name: &'a str,

@@ -1,4 +1,4 @@
-//! What help says of each command after its options.
+//! The help of each command after its options.
 
 pub(crate) const PROGRAM: &str =
     "A command's own help, as `swsusp_image check --help`, says what it reads and writes. With `--quiet` before the command

@@ -6,7 +6,7 @@ ghost use Rattle.image_words.specs.Matched.{Answers, area_in, asked_in, differ_i
 use crate::command::{Area, Command, Form};
 use clap::ArgMatches;
 
-/// The command that matches ask for.
+/// Returns the command that matches ask for.
 pub(crate) fn matched<'a>(matches: &ArgMatches<'a>) -> Option<Command<'a>>
     ensures { Answers asked_by (asked_in (subcommand_rows_of matches.now)) result }
 {
@@ -29,7 +29,7 @@ pub(crate) fn matched<'a>(matches: &ArgMatches<'a>) -> Option<Command<'a>>
     }
 }
 
-/// An area, and in which form something of it is printed.
+/// Returns an area, and the form of what is printed of it.
 fn formed<'a>(values: &ArgMatches<'a>) -> Option<(Area<'a>, Form)>
     ensures { Answers formed_by (formed_in (rows_of (found_of values.now))) result }
 {

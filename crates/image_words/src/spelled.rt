@@ -11,7 +11,7 @@ use clap::ArgMatches;
 use itoa::Buffer;
 use swsusp_words::{equal, is_path};
 
-/// The command that matches of words ask for, if the words are its plain ones.
+/// Returns the command that matches of words ask for, if the words are its plain ones.
 pub(crate) fn plain<'a>(matches: &ArgMatches<'a>, words: &[String]) -> Option<Command<'a>>
     ensures asks { IfSome result (λ command. command_of (map string_bytes words.now) ≡ Some (asked_by command)) }
     ensures found { (asked : Asked) → asked_in (subcommand_rows_of matches.now) ≡ Some asked →
@@ -25,7 +25,7 @@ pub(crate) fn plain<'a>(matches: &ArgMatches<'a>, words: &[String]) -> Option<Co
     }
 }
 
-/// Whether words, of which the first is the program's name, are the plain words of a command.
+/// Returns whether words, the first of which is the program's name, are the plain words of a command.
 fn is_spelled(command: &Command<'_>, words: &[String]) -> bool
     ensures { IsTrue result ↔ (command_of (map string_bytes words.now) ≡ Some (asked_by command.now)) }
 {
@@ -56,7 +56,7 @@ fn spells(command: &Command<'_>, words: &[String]) -> bool
     }
 }
 
-/// Whether words are a command's name, and the plain words of an area and of a form.
+/// Returns whether words are a command's name, and the plain words of an area and of a form.
 fn spells_in(form: Form, area: Area<'_>, words: &[String], name: &str) -> bool
     ensures { IsTrue result ↔ IsArea (area_by area.entry) ×
         IsSpelledWith (is_json form) (area_by area.entry) name.now (codes "--json") [] (map string_bytes words.now) }
@@ -67,7 +67,7 @@ fn spells_in(form: Form, area: Area<'_>, words: &[String], name: &str) -> bool
     }
 }
 
-/// Whether words are `differ`, the plain words of an area, perhaps `--first` among its options, and a path.
+/// Returns whether words are `differ`, the plain words of an area, perhaps `--first` among its options, and a path.
 fn spells_differ(first_only: bool, area: Area<'_>, words: &[String], other: &str) -> bool
     ensures { IsTrue result ↔ Spells (differ first_only (area_by area.entry) other.now) (map string_bytes words.now) }
 {
@@ -81,7 +81,7 @@ fn spells_differ(first_only: bool, area: Area<'_>, words: &[String], other: &str
     }
 }
 
-/// Whether words are a command's name, the plain words of an area, a flag among its options, and these.
+/// Returns whether words are a command's name, the plain words of an area, a flag among its options, and `own`.
 fn spells_flagged<'a>(
     area: Area<'a>,
     words: &[String],
@@ -107,7 +107,7 @@ fn spells_flagged<'a>(
     are(words, &[name, "--offset", number, flag, area.swap], own)
 }
 
-/// Whether words are a command's name, the plain words of an area, and these.
+/// Returns whether words are a command's name, the plain words of an area, and `own`.
 fn spells_over(area: Area<'_>, words: &[String], name: &str, own: &[&str]) -> bool
     ensures { IsTrue result ↔ IsArea (area_by area.entry) ×
         IsSpelledOver (area_by area.entry) name.now (map (λ text. text.now) own.now) (map string_bytes words.now) }
@@ -123,7 +123,7 @@ fn spells_over(area: Area<'_>, words: &[String], name: &str, own: &[&str]) -> bo
     are(words, &[name, "--offset", number, area.swap], own)
 }
 
-/// Whether words are these texts, and then those.
+/// Returns whether words are the texts `these` and then `those`.
 fn are(words: &[String], these: &[&str], those: &[&str]) -> bool
     ensures { IsTrue result ↔ (map string_bytes words.now
         ≡ map (λ text. text.now) these.now ++ map (λ text. text.now) those.now) }

@@ -9,7 +9,7 @@ use page_core::NoMemory;
 use std::alloc::{AllocError, Global};
 use thiserror::Error;
 
-/// Why a list of words is no command.
+/// Why a list of words isn't a command.
 #[derive(Debug, Drop, Error)]
 pub enum Unparsed {
     /// Help or the version, which the words ask for.
@@ -45,7 +45,7 @@ impl From<AllocError> for Unparsed {
     }
 }
 
-/// What clap says of words.
+/// Returns what clap says of words.
 pub(crate) fn said(alloc: Global, error: &clap::Error) -> Unparsed
     ensures no_memory { kind_of error.now ≡ kind.OutOfMemory → result ≡ unparsed.NoMemory }
     ensures tells { Tells (kind_of error.now) result }

@@ -3,7 +3,7 @@ use Rattle.std.specs.Prelude.{◌==◌, ℕ, if◌then◌else◌, ⊤}
 use Rattle.image_write.specs.declared.write_step.WriteStep.{WriteStep}
 use Rattle.image_write.specs.declared.write_step.WriteStep.TheVariants.{More, Done, Fault}
 
--- after k writes of so many
+-- the answer after k of the given number of writes
 abbrev pub after : ℕ → ℕ → WriteStep
 after k writes = if k == writes then Done else More k writes
 
@@ -13,7 +13,7 @@ Succeeds (More k writes) = ⊤
 Succeeds Done = ⊤
 Succeeds Fault = ⊥
 
--- and it wasn't the last one
+-- the write succeeded, and it wasn't the last one
 abbrev pub GoesOn : WriteStep → Type 0
 GoesOn (More k writes) = ⊤
 GoesOn Done = ⊥

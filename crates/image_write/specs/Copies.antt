@@ -4,19 +4,19 @@ use Rattle.std.specs.List.{list_any}
 use Rattle.definitions.specs.Tables.{frame}
 use Rattle.pfn_pack.specs.Places.{count_below}
 
--- the originals with their copy frames, without those whose page was all zero
+-- the originals with their copy frames, except those whose page was all zero
 abbrev pub has_data : List ℕ → ℕ × ℕ → Bool
 has_data zeros pair = not (list_any (λ q. q == pair.0) zeros)
 
 abbrev pub with_data : List ℕ → List ℕ → List ℕ → List (ℕ × ℕ)
 with_data origs copies zeros = filter (has_data zeros) (zip origs copies)
 
--- their pages
+-- the pages of the copies with data
 abbrev pub data_pages : List (List ℕ) → List ℕ → List ℕ → List ℕ → List (List ℕ)
 data_pages frames origs copies zeros = map (λ pair. frame frames pair.1) (with_data origs copies zeros)
 
--- How far the copies are read: so many pairs of an original and its copy are passed, which lie below these two numbers,
--- and so many of them have data.
+-- How far the copies are read: the first `passed` pairs of an original and its copy, which are those below the numbers
+-- `orig` and `copy`; `found` of them have data.
 pub record IsPassed (origs copies zeros : List ℕ) (orig copy passed found : ℕ) : Type 0 where
   pub within : passed ≤ length origs
   pub origs_below : count_below origs orig ≡ passed

@@ -1,4 +1,4 @@
--- What a writer is in a contract, by its fields, and how far its cursor has come.
+-- What a contract sees of a writer, by its fields, and how far its cursor has come.
 use Rattle.std.specs.Prelude.{ℕ, List}
 use Rattle.image_write.specs.Copies.{IsPassed}
 use Rattle.image_write.specs.Writing.{Writing}
@@ -20,6 +20,6 @@ writing w = record {
   passed = w.cursor.passed;
 }
 
--- so many pages with data lie after the cursor
+-- the cursor has passed this number of pages with data
 abbrev pub HasPassed : List ℕ → List ℕ → List ℕ → Cursor → ℕ → Type 0
 HasPassed origs copies zeros cursor found = IsPassed origs copies zeros cursor.orig cursor.copy cursor.passed found

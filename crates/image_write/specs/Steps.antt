@@ -1,4 +1,4 @@
--- What a write does: to the disk, to the slot table in memory, and to the writer.
+-- The effects of a write: on the disk, on the slot table in memory, and on the writer.
 use Rattle.std.specs.Prelude.{◌≡◌, ◌+◌, ℕ, List, length, Option}
 use Rattle.definitions.specs.Disk.{Content, Changes}
 use Rattle.definitions.specs.Tables.{with_entries}
@@ -17,19 +17,19 @@ pub record HasSlots (frames : List (List ℕ)) (table : SlotTable) (runs : SlotR
   pub lies : LiesIn frames table
   pub matches : Matches frames table runs
 
--- Memory is as large as before, and the runs are those of the free slots still.
+-- Memory is as large as before, and the runs are still those of the free slots.
 pub record KeepsSlots (table : SlotTable) (old new : List (List ℕ)) (was now : SlotRuns) : Type 0 where
   pub len : length new ≡ length old
   pub runs : Matches new table now
   pub room : now.room ≡ was.room
 
--- The image has the slots that the next write takes.
+-- The next write's slots now belong to the image.
 pub record TakesSlots (w : Writing) (old new : List (List ℕ)) (was now : SlotRuns) : Type 0 where
   pub taken : (free : List ℕ) → IsWriting free old w →
       new ≡ with_entries old w.table.first (slots_of_write w.info free w.written) 65536
   pub kept : KeepsSlots w.table old new was now
 
--- The next write is made, or fails: that of this page, or of a map.
+-- The next write is made, or fails: that of this page, or that of a map.
 pub record WritesPage (page : List ℕ) (answer : WriteStep) (frames : List (List ℕ)) (w : Writing)
     (old new : Option Content) : Type 0 where
   pub written : (free : List ℕ) → IsWriting free frames w → Succeeds answer →
@@ -37,7 +37,7 @@ pub record WritesPage (page : List ℕ) (answer : WriteStep) (frames : List (Lis
   pub failed : (free : List ℕ) → IsWriting free frames w → answer ≡ Fault →
       Changes (FailsToMake (write_next free w page)) old new
 
--- A writer that begins an image, where these slots are free.
+-- A writer that begins an image while these slots are free.
 pub record HasBegun (info : Info) (extents : List (ℕ × ℕ × ℕ)) (table : SlotTable) (free : List ℕ)
     (frames : List (List ℕ)) (w : Writing) : Type 0 where
   pub info_is : w.info ≡ info
@@ -46,7 +46,8 @@ pub record HasBegun (info : Info) (extents : List (ℕ × ℕ × ℕ)) (table : 
   pub written : w.written ≡ 0
   pub writing : IsWriting free frames w
 
--- It has come one write further where that succeeds, over memory before and after. Its cursor moves so.
+-- A successful step makes one more write; `frames` is memory before it, `after` after it. `moves` says what becomes of
+-- the cursor.
 pub record Advances (moves : Writing → Writing → Type 0) (answer : WriteStep) (frames after : List (List ℕ))
     (old new : Writing) : Type 0 where
   pub image : IsSameImage old new
@@ -54,6 +55,6 @@ pub record Advances (moves : Writing → Writing → Type 0) (answer : WriteStep
   pub writing : (free : List ℕ) → IsWriting free frames old → GoesOn answer → IsWriting free after new
   pub cursor : moves old new
 
--- where more is to be written, the copies are read as far as they are written
+-- if more is to be written, the copies are read as far as they are written
 abbrev pub ReadsOn : List ℕ → List ℕ → List ℕ → WriteStep → Writing → Writing → Type 0
 ReadsOn origs copies zeros answer old new = GoesOn answer → HasReadCopies origs copies zeros new

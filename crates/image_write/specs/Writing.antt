@@ -15,8 +15,8 @@ use Rattle.plain_machine.specs.Image.{is_map_write, page_of_write}
 use Rattle.image_write.specs.Copies.{with_data, data_pages, IsPassed}
 
 -- What it writes, where, and how many writes it has made: the block of the first map, the block of the map that is
--- filled, its entries so far and its link, and the block of the next map once that is taken. Of the copies it has
--- passed so many.
+-- being filled, its entries so far and its link, and the block of the next map once that is taken; and how many of the
+-- copies it has passed.
 pub record Writing : Type 0 where
   pub info : Info
   pub extents : List (ℕ × ℕ × ℕ)
@@ -34,29 +34,28 @@ pub record Writing : Type 0 where
 abbrev pub writes_of : Info → ℕ
 writes_of info = info.pages + maps_of info.pages
 
--- how many slots are taken when so many writes are made: that of the first map, one for each page, and one for each
--- next map
+-- how many slots are taken after `written` writes: one for the first map, one for each page, and one for each next map
 abbrev pub taken_after : ℕ → ℕ
 taken_after written = page_place (page_of_write written)
 
--- The slots that write k takes: that of its page, and with the 511th page of a map that of the next one. A write of a
--- map takes none.
+-- The slots that write k takes: that of its page, and with the 511th page of a map also that of the next map. The write
+-- of a map takes none.
 abbrev pub slots_of_write : Info → List ℕ → ℕ → List ℕ
 slots_of_write info free k =
     if is_map_write info.pages k then [] else take (if k % 512 == 510 then 2 else 1) (drop (taken_after k) free)
 
--- of these slots the first ones are the image's, and the others are the free slots of the table
+-- the first `count` of these slots are the image's, and the others are the free slots of the table
 pub record HasTaken (free : List ℕ) (count : ℕ) (frames : List (List ℕ)) (table : SlotTable) : Type 0 where
   pub left : free_in frames table ≡ drop count free
   pub taken : All (λ s. entry_at frames table.first s ≡ 65536) (take count free)
 
--- the blocks of the first so many of these slots lie below a limit: those that the disk has, or that a 32-bit number
--- can name
+-- the blocks of the first `count` of these slots lie below a limit: the number of the disk's blocks, or of those that a
+-- 32-bit number can name
 abbrev pub BlocksBelow : List (ℕ × ℕ × ℕ) → List ℕ → ℕ → ℕ → Type 0
 BlocksBelow extents free count limit = (place : ℕ) → place < count → laid_block extents free place < limit
 
--- A writer that isn't done, where these slots were free at its begin: it has taken those for what was written, and
--- fills the map of the next write.
+-- A writer that isn't done, which began with these free slots: it has taken those for what was written, and fills the
+-- map of the next write.
 pub record IsWriting (free : List ℕ) (frames : List (List ℕ)) (w : Writing) : Type 0 where
   pub ascending : IsStrictlyIncreasing free
   pub few : length free < 2 ^ 32
@@ -70,11 +69,11 @@ pub record IsWriting (free : List ℕ) (frames : List (List ℕ)) (w : Writing) 
   pub link : w.entries.link ≡ (if w.written % 512 == 511 then w.next else 0)
   pub next : w.written % 512 ≡ 511 → w.next ≡ laid_block w.extents free (map_place (w.written / 512 + 1))
 
--- it can go on, on a disk of so many blocks
+-- the writer can go on, on a disk of `count` blocks
 abbrev pub IsReady : ℕ → List (List ℕ) → Writing → Type 0
 IsReady count frames w = (free : List ℕ) × IsWriting free frames w × BlocksBelow w.extents free (writes_of w.info) count
 
--- the page of a stream that is next, and the next write where that is this page: the block, and what is written there
+-- the next page of a stream, and the next write if it is that of this page: its block and what is written there
 abbrev pub page_next : List (List ℕ) → Writing → List ℕ
 page_next stream w = slice_index_or stream (page_of_write w.written) []
 
@@ -88,7 +87,7 @@ Makes made old new = Writes made.0 made.1 old new
 abbrev pub FailsToMake : ℕ × List ℕ → Content → Content → Type 0
 FailsToMake made old new = FailsToWrite made.0 made.1 old new
 
--- the same image, at the same places
+-- the same image in the same places
 pub record IsSameImage (old new : Writing) : Type 0 where
   pub info : new.info ≡ old.info
   pub extents : new.extents ≡ old.extents
@@ -100,14 +99,14 @@ abbrev pub stream_of_sets : Info → List (List ℕ) → List ℕ → List ℕ �
 stream_of_sets info frames origs copies zeros =
     stream_pages info (marked_numbers origs zeros) (data_pages frames origs copies zeros)
 
--- The sets are those of the image: as many originals and copies as the info page says, and pages with data for its
--- count of pages.
+-- The sets are those of the image: as many originals and copies as the info page says, and as many copies with data as
+-- its count of pages requires.
 pub record AreOfImage (info : Info) (origs copies zeros : List ℕ) : Type 0 where
   pub originals : length origs ≡ info.image_pages
   pub copied : length copies ≡ info.image_pages
   pub pages : info.pages ≡ length (with_data origs copies zeros) + meta_of info.image_pages + 1
 
--- how many data pages are written when so many writes are made
+-- how many data pages are written after `written` writes
 abbrev pub data_written : Info → ℕ → ℕ
 data_written info written = page_of_write written - (meta_of info.image_pages + 1)
 
@@ -115,7 +114,7 @@ data_written info written = page_of_write written - (meta_of info.image_pages + 
 abbrev pub HasReadCopies : List ℕ → List ℕ → List ℕ → Writing → Type 0
 HasReadCopies origs copies zeros w = IsPassed origs copies zeros w.orig w.copy w.passed (data_written w.info w.written)
 
--- no more of the copies is read
+-- no more copies are read
 pub record IsSameCursor (old new : Writing) : Type 0 where
   pub orig : new.orig ≡ old.orig
   pub copy : new.copy ≡ old.copy

@@ -6,19 +6,19 @@ ghost use Rattle.pfn_pack.specs.Places.{members_in};
 
 use memory_bitmap::Bitmap;
 
-/// How far the originals and their copies are read.
+/// How far the originals and their copies have been read.
 #[derive(Clone, Copy)]
 pub struct Cursor {
-    /// The least number that the next original may have.
+    /// A lower bound of the next original's number.
     pub orig: u32,
-    /// The least number that its copy frame may have.
+    /// A lower bound of its copy frame's number.
     pub copy: u32,
-    /// How many originals lie below.
+    /// The number of originals below `orig`.
     pub passed: u32,
 }
 
 impl Cursor {
-    /// None is read.
+    /// Makes a cursor before the first original.
     pub fn begin() -> Cursor
         ensures { (origs copies zeros : List ℕ) → HasPassed origs copies zeros result 0 }
     {
@@ -29,7 +29,7 @@ impl Cursor {
         }
     }
 
-    /// The copy frame of the next original that isn't in `zeros`.
+    /// Returns the copy frame of the next original that isn't in `zeros`, and moves past that original.
     pub fn next(&mut self, origs: &Bitmap, copies: &Bitmap, zeros: Option<&Bitmap>) -> u32
         requires equal { length origs.now.members ≡ length copies.now.members }
         requires more { (found : ℕ)
@@ -61,7 +61,7 @@ impl Cursor {
     }
 }
 
-/// Whether a page frame is in a set, if there is one.
+/// Returns whether there is a set and a page frame is in it.
 fn is_in(set: Option<&Bitmap>, p: u32) -> bool
     ensures { result ≡ list_any (λ q. q == p) (members_in (option_copied set.entry)) }
 {

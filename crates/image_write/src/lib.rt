@@ -1,4 +1,5 @@
-//! Writes an image to the free slots of a swap area, a block a step (save_image and its calls, kernel/power/swap.c).
+//! Writes an image to the free slots of a swap area, one block per step (save_image and its callees,
+//! kernel/power/swap.c).
 #![tactic(auto)]
 
 mod copies;

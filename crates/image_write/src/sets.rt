@@ -1,12 +1,12 @@
 use memory_bitmap::Bitmap;
 
-/// The sets of an image's page frames, as the caller lends them.
+/// The sets of an image's page frames, borrowed from the caller.
 #[derive(Drop)]
 pub struct Sets<'a> {
     /// The page frames that the image has.
     pub origs: &'a Bitmap,
-    /// Those that their copies lie in, one for each.
+    /// The page frames that hold the copies, one for each original.
     pub copies: &'a Bitmap,
-    /// The originals whose page is all zero, where these are left out.
+    /// The originals whose page is all zero, if these are left out.
     pub zeros: Option<&'a Bitmap>,
 }

@@ -8,7 +8,7 @@ use memory_bitmap::Bitmap;
 use page_core::Page;
 use pfn_pack::pack;
 
-/// Page `k` of the stream, from 0, which is the info page or a number page.
+/// Makes page `k` of the stream, from 0, which must be the info page or a number page.
 pub fn head_page(info: &Info, origs: &Bitmap, zeros: Option<&Bitmap>, k: u32) -> Page
     requires few { info.now.pages < 2 ^ 52 }
     requires head { k ≤ meta_of (length origs.now.members) }

@@ -25,9 +25,9 @@ use std::marker::Model;
 use swap_map::{MapWriter, Pushed};
 use swap_slots::{FileMap, FreeRuns, SlotEntry, SlotTable};
 
-/// An image that is written to free slots (`struct swap_map_handle`, kernel/power/swap.c). The first map's slot is
-/// taken at the begin, and each page takes one. With a map's last entry the slot of the next map is taken, and the full
-/// map is written.
+/// A writer of an image to free slots (`struct swap_map_handle`, kernel/power/swap.c). It takes the first map's slot
+/// when it begins, and one for each page. With a map's last entry it takes the next map's slot, and writes the full
+/// map.
 #[derive(Drop)]
 pub struct Writer {
     info: Info,
@@ -35,9 +35,9 @@ pub struct Writer {
     table: SlotTable,
     /// The block of the first map.
     first: u32,
-    /// How many writes are made.
+    /// The number of writes made.
     written: u32,
-    /// The map that is filled, its block, and the block of the next one.
+    /// The map that is being filled, its block, and the block of the next one.
     map: MapWriter,
     block: u32,
     next: u32,
@@ -60,7 +60,7 @@ impl Writer {
     ghost use Rattle.image_write.specs.Writing.{IsWriting, IsReady, BlocksBelow, IsSameImage, page_next, IsSameCursor};
     ghost use Rattle.image_write.specs.Writing.{AreOfImage, HasReadCopies, stream_of_sets};
 
-    /// Takes the slot of the first map.
+    /// Begins an image by taking the slot of the first map.
     pub fn begin(
         frames: &mut Frames,
         runs: &mut FreeRuns,
@@ -95,15 +95,15 @@ impl Writer {
         }
     }
 
-    /// The block of the first map.
+    /// Returns the block of the first map.
     pub fn first(&self) -> u32
         ensures { result ≡ self.now.first }
     {
         self.first
     }
 
-    /// Makes the next write: that of a page of the image, or of a map. The pages are the info page, the number pages of
-    /// the originals, and the copies of those that have data.
+    /// Makes the next write: that of a page of the image, or of a map. The image's pages are the info page, the number
+    /// pages of the originals, and the copies with data.
     pub fn step<D: Disk>(
         &mut self,
         frames: &mut Frames,
@@ -138,7 +138,7 @@ impl Writer {
         self.write_copy(frames, runs, disk, copy)
     }
 
-    /// Makes the next write, as `step` does, of a page that is given where it is one of a page of the image.
+    /// Makes the next write as `step` does. If that writes a page of the image, the page is the given one.
     pub fn put<D: Disk>(
         &mut self,
         frames: &mut Frames,
@@ -163,8 +163,8 @@ impl Writer {
         self.write_page(frames, runs, disk, page)
     }
 
-    /// Writes the info page or the number page that is next, as `write_page` does. It is a call of its own, so that a
-    /// step that writes a copy makes no room for a page that is made here.
+    /// Writes the next info page or number page, as `write_page` does. It is a function of its own so that a step that
+    /// writes a copy needs no room for a page made here.
     #[inline(never)]
     fn write_head<D: Disk>(
         &mut self,
@@ -193,8 +193,7 @@ impl Writer {
         self.write_page(frames, runs, disk, &page)
     }
 
-    /// Writes a page of the image to the next free slot. With the last entry of the map the slot of the next map is
-    /// taken.
+    /// Writes a page of the image to the next free slot. With the map's last entry, takes the next map's slot.
     fn write_page<D: Disk>(
         &mut self,
         frames: &mut Frames,
@@ -222,8 +221,8 @@ impl Writer {
         }
     }
 
-    /// Writes a copy frame to the next free slot, as `write_page` does a page. It is lent to the disk, so its slot is
-    /// taken afterwards.
+    /// Writes a copy frame to the next free slot, as `write_page` does a page. The copy frame is lent to the disk, so
+    /// its slot is taken afterwards.
     fn write_copy<D: Disk>(
         &mut self,
         frames: &mut Frames,
@@ -255,7 +254,7 @@ impl Writer {
         }
     }
 
-    /// The block of the least free slot, which is that of the next page of the image.
+    /// Returns the block of the least free slot, which is that of the next page of the image.
     fn next_block(&self, frames: &Frames, runs: &FreeRuns) -> u32
         requires slots { HasSlots frames.now self.now.table runs.now }
         requires writing { (free : List ℕ) × IsWriting free frames.now self.now }
@@ -267,8 +266,8 @@ impl Writer {
         self.extents.block(slot) as u32
     }
 
-    /// Takes the slot of the next page of the image, and with the last entry of the map that of the next map. The
-    /// answer is the page's block.
+    /// Takes the slot of the next page of the image, and with the last entry of the map also that of the next map.
+    /// Returns the page's block.
     fn take_page(&mut self, frames: &mut Frames, runs: &mut FreeRuns) -> u32
         requires slots { HasSlots frames.old self.old.table runs.old }
         requires writing { (free : List ℕ) × IsWriting free frames.old self.old }
@@ -292,7 +291,7 @@ impl Writer {
         block
     }
 
-    /// Writes the map that is filled, and goes on with the next one.
+    /// Writes the map that is being filled, and goes on with the next one.
     fn write_map<D: Disk>(&mut self, disk: &mut D) -> WriteStep
         requires writing { (memory : List (List ℕ)) × IsReady (D.block_count disk.old) memory self.old }
         requires map { is_map_write self.old.info.pages self.old.written ≡ true }
@@ -318,7 +317,7 @@ impl Writer {
         }
     }
 
-    /// Whether the page of the image that is next is the info page or a number page.
+    /// Returns whether the next page of the image is the info page or a number page.
     fn is_at_head(&self, sets: &Sets) -> bool
         requires few { self.now.info.pages < 2 ^ 52 }
         requires originals { length (origs_of sets.now) ≡ self.now.info.image_pages }
@@ -327,7 +326,7 @@ impl Writer {
         self.written - self.written / 512 <= sets.origs.len().div_ceil(512)
     }
 
-    /// The info page or the number page that is next.
+    /// Returns the next info page or number page.
     fn next_head(&self, sets: &Sets) -> Page
         requires few { self.now.info.pages < 2 ^ 52 }
         requires originals { length (origs_of sets.now) ≡ self.now.info.image_pages }
@@ -343,7 +342,7 @@ impl Writer {
         )
     }
 
-    /// The page frame of the copy that is next.
+    /// Returns the page frame of the next copy.
     fn next_copy(&mut self, frames: &Frames, sets: &Sets) -> u32
         requires page { page_of_write self.old.written < self.old.info.pages }
         requires data { meta_of self.old.info.image_pages < page_of_write self.old.written }
@@ -365,7 +364,7 @@ impl Writer {
         self.cursor.next(sets.origs, sets.copies, sets.zeros)
     }
 
-    /// Whether the next write is one of a map.
+    /// Returns whether the next write is that of a map.
     fn is_at_map(&self) -> bool
         requires few { writes_of self.now.info < 2 ^ 32 }
         requires unfinished { self.now.written < writes_of self.now.info }
@@ -375,7 +374,7 @@ impl Writer {
     }
 }
 
-/// How many writes an image takes.
+/// Returns how many writes an image takes.
 fn writes(info: &Info) -> u32
     requires { writes_of info.now < 2 ^ 32 }
     ensures { result ≡ writes_of info.now }
@@ -383,7 +382,7 @@ fn writes(info: &Info) -> u32
     (info.pages + info.pages / 511 + 1) as u32
 }
 
-/// Gives the least free slot to the image, and answers its block.
+/// Gives the least free slot to the image, and returns its block.
 fn take_block(frames: &mut Frames, runs: &mut FreeRuns, table: &SlotTable, map: &FileMap) -> u32
     requires slots { HasSlots frames.old table.now runs.old }
     requires some { 0 < length (free_in frames.old table.now) }
@@ -394,13 +393,13 @@ fn take_block(frames: &mut Frames, runs: &mut FreeRuns, table: &SlotTable, map: 
     ensures pages { All IsPage frames.old }
     ensures kept { KeepsSlots table.now frames.old frames.new runs.old runs.new }
 {
-    // Each page frame has 4096 bytes, so that an entry that is set leaves the others.
+    // Each page frame has 4096 bytes, so setting an entry leaves the others.
     let _ = frames.len();
     let slot = table.take(frames, runs, SlotEntry::Image).unwrap();
     map.block(slot) as u32
 }
 
-/// What is answered after `k` writes of so many.
+/// Returns the answer after `k` of `of` writes.
 fn told(k: u32, of: u32) -> WriteStep
     ensures { result ≡ after k of }
 {

@@ -1,4 +1,4 @@
--- Which resumes the loader that is made of an image makes.
+-- Which resumes succeed with the loader that is made of an image.
 use Rattle.std.specs.Prelude.{◌≡◌, ℕ, [], Some}
 use Rattle.definitions.specs.Disk.{Content, IsContent, as_it_reads}
 use Rattle.machine.specs.declared.dump.Dump.{Dump}
@@ -8,8 +8,8 @@ use Rattle.image_machine.specs.declared.heading.Layout.{Layout}
 use Rattle.image_dump.specs.Makes.{IsLoaderOf}
 use Rattle.check_laws.specs.Resumable.{IsResumed, NamesSlots}
 
--- An image in which nothing is found is resumed by the loader that is made of it, under the same kernel and under any,
--- where its blocks are those of the loader's slots.
+-- If nothing wrong is found in an image, the loader that is made of it resumes it, under the same kernel and under any,
+-- provided that its blocks are those of the loader's slots.
 abbrev pub LoaderResumes : Type 0
 LoaderResumes =
     (blocks before now : ℕ) (held : Content) (layout : Layout) (dump : Dump) (check : IdentCheck) →
@@ -18,7 +18,7 @@ LoaderResumes =
     Finds (Some held) blocks layout.offset before now (Some []) →
     IsResumed dump.hw dump.frames (as_it_reads held) check
 
--- They are where no extents were given: then the area lies from block 0 on in one piece.
+-- The blocks are those of the slots if no extents were given: the area then lies in one piece from block 0 on.
 abbrev pub LoaderOfOnePieceResumes : Type 0
 LoaderOfOnePieceResumes =
     (blocks before now : ℕ) (held : Content) (layout : Layout) (dump : Dump) (check : IdentCheck) →

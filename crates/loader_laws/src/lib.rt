@@ -1,2 +1,2 @@
-//! Laws of the loader that is made of an image: that the image is resumed into it.
+//! Laws of the loader that is made of an image: it resumes that image.
 #![tactic(auto)]

@@ -1,4 +1,4 @@
--- What was read of a command line.
+-- What has been read of a command line.
 use Rattle.std.specs.Prelude.{Option}
 use Rattle.loader_words.specs.Words.{AskedDump, Given, WantedDump, loader, machine}
 use Rattle.loader_words.specs.declared.asked.Asked.{Asked}

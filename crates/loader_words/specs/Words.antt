@@ -13,7 +13,7 @@ pub record Given : Type 0 where
   pub zones : List (ℕ × ℕ)
   pub extents : List (ℕ × ℕ × ℕ)
 
--- which dump is wanted: that of a loader, or of the machine that was saved, with its tables where they are in the image
+-- which dump is wanted: a loader's, or that of the machine that was saved, with its tables if they are in the image
 pub data WantedDump : Type 0 where
   loader : WantedDump
   machine : (tables : Option (ℕ × ℕ)) → WantedDump
@@ -96,7 +96,7 @@ options_in (suc n) given [] = Some given
 options_in (suc n) given (flag ∷ words) =
     option_and_then (λ read. options_in n read.0 read.1) (option_first given (flag ∷ words))
 
--- which dump a command wants, where these tables are given
+-- which dump a command wants, given these tables
 abbrev pub wanted_of : List ℕ → Option (ℕ × ℕ) → Option WantedDump
 wanted_of command tables =
     if pointwise nat_eq command (codes "loader") then (if is_none tables then Some loader else None)

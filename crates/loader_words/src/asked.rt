@@ -6,15 +6,15 @@ use crate::options::{MOST_EXTENTS, MOST_ZONES, Options};
 use arrayvec::ArrayVec;
 use swsusp_words::is_path;
 
-/// One more than the options: the offset, the tables, zones and extents.
+/// One more than the most options: the offset, the tables, zones and extents.
 const MOST_READS: u32 = 83;
 
 /// Which dump is wanted of an image.
 #[derive(Clone, Copy, Debug, PartialEq, Eq)]
 pub enum Wanted {
-    /// That of a loader.
+    /// The dump of a loader.
     Loader,
-    /// That of the machine which was saved, whose tables are in the image from these page frames on, or aren't.
+    /// The dump of the machine that was saved. Its tables are in the image from these page frames on, or aren't.
     Machine(Option<(u32, u32)>),
 }
 
@@ -30,7 +30,7 @@ pub struct Asked<'a> {
     pub extents: ArrayVec<(u32, u32, u32), MOST_EXTENTS>,
 }
 
-/// The dump that a plain list of words asks for, of which the first is the program's name.
+/// Reads the dump that a plain list of words asks for, whose first word is the program's name.
 pub fn parse(words: &[String]) -> Option<Asked<'_>>
     ensures asked { IfSome result (λ asked. asked_of (map string_bytes words.now) ≡ Some (asked_by asked)) }
     ensures none { IfNone result (asked_of (map string_bytes words.now) ≡ None) }
@@ -55,7 +55,7 @@ pub fn parse(words: &[String]) -> Option<Asked<'_>>
     })
 }
 
-/// Which dump a command wants: a loader's tables aren't given.
+/// Returns which dump a command wants. For a loader no tables may be given.
 fn wanted_of(command: &str, tables: Option<(u32, u32)>) -> Option<Wanted>
     ensures { option_map wanted_by result ≡ wanted_of command.now tables }
 {
@@ -69,7 +69,7 @@ fn wanted_of(command: &str, tables: Option<(u32, u32)>) -> Option<Wanted>
     }
 }
 
-/// The options that words are.
+/// Reads words as options.
 fn options_in(words: &[String]) -> Option<Options>
     ensures given { IfSome result (λ given.
         options_in 83 no_options (map string_bytes words.now) ≡ Some (given_by given)) }

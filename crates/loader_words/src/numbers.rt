@@ -3,7 +3,7 @@ ghost use Rattle.swsusp_words.specs.Words.{has_leading_zero, plain_number};
 
 use script::number_of;
 
-/// The number of 32 bits that a word of decimal digits without a leading zero is.
+/// Reads a word of decimal digits without a leading zero as a number of 32 bits.
 pub(crate) fn number(word: &str) -> Option<u32>
     ensures { result ≡ plain_number (2 ^ 32) word.now }
 {
@@ -17,7 +17,7 @@ pub(crate) fn number(word: &str) -> Option<u32>
     Some(number as u32)
 }
 
-/// Whether the first of several bytes is a 0.
+/// Returns whether there are several bytes and the first is a 0.
 fn has_leading_zero(word: &[u8]) -> bool
     ensures { result ≡ has_leading_zero word.now }
 {

@@ -6,10 +6,10 @@ ghost use Rattle.loader_words.specs.Given.{given_by};
 use crate::numbers::number;
 use arrayvec::ArrayVec;
 
-/// At most this many zones are given.
+/// The most zones that may be given.
 pub(crate) const MOST_ZONES: usize = 16;
 
-/// At most this many extents are given.
+/// The most extents that may be given.
 pub(crate) const MOST_EXTENTS: usize = 64;
 
 /// The options that were read.

@@ -1,4 +1,4 @@
--- Which parts make a machine, and which of them is at fault where they don't.
+-- Which parts make a machine, and which of them is at fault if they don't.
 use Rattle.std.specs.Prelude.{ℕ, ◌+◌, ◌-◌, ◌%◌, ◌==◌, ◌&&◌, ◌||◌, Bool, not, nat_lt, nat_le, List, length, Option, Some}
 use Rattle.std.specs.Prelude.{None, if◌then◌else◌, slice_index_or}
 use Rattle.std.specs.List.{list_all, list_any, range_with_len}
@@ -10,7 +10,7 @@ use Rattle.machine.specs.declared.hardware.Parts.{Parts}
 use Rattle.machine.specs.declared.hardware.HardFault.{HardFault}
 use Rattle.machine.specs.declared.hardware.HardFault.TheVariants.{Zones, Slots, Tables, Regions, Extents}
 
--- the hardware of these parts
+-- the hardware that these parts make
 abbrev pub hardware_of : Parts → Hardware
 hardware_of parts = record {
   zones = parts.zones.now;
@@ -33,7 +33,7 @@ is_zone zones j =
     nat_lt 0 (zone_at zones j).1 && nat_le (zone_end (zone_at zones j)) 65536
     && ((j == 0) || nat_le (zone_end (zone_at zones (j - 1))) (zone_at zones j).0)
 
--- there are 1 to 16 zones, and each is one
+-- there are 1 to 16 zones, and each is a valid one
 abbrev pub is_zones : Hardware → Bool
 is_zones h = nat_lt 0 (length h.zones) && nat_le (length h.zones) 16 && each_below (length h.zones) (is_zone h.zones)
 
@@ -41,7 +41,7 @@ is_zones h = nat_lt 0 (length h.zones) && nat_le (length h.zones) 16 && each_bel
 abbrev pub has_slots : Hardware → Bool
 has_slots h = nat_le 2 h.slots && nat_le h.slots 131072
 
--- the page frames of the tables are valid, and none is of both
+-- the page frames of the tables are valid, and the tables share none
 abbrev pub has_tables : Hardware → Bool
 has_tables h =
     list_all (is_valid h) (table_frames h)
@@ -62,11 +62,11 @@ is_in_region r p = nat_le r.0 p && nat_lt p (r.0 + r.1)
 abbrev pub has_flags : ℕ × ℕ × ℕ → Bool
 has_flags r = nat_lt 0 r.1 && nat_le r.2 126 && (r.2 % 2 == 0)
 
--- such a region, whose page frames are valid and of no table
+-- the region's flags are valid, and its page frames are valid and not those of a table
 abbrev pub is_region : Hardware → ℕ × ℕ × ℕ → Bool
 is_region h r = has_flags r && list_all (λ p. is_valid h p && not (is_table_frame h p)) (region_frames r)
 
--- region k is one, and has no page frame of a region before
+-- region k is valid and shares no page frame with an earlier region
 abbrev pub is_region_at : Hardware → ℕ → Bool
 is_region_at h k =
     is_region h (region_at h.regions k)
@@ -76,12 +76,12 @@ is_region_at h k =
 abbrev pub has_regions : Hardware → Bool
 has_regions h = nat_le (length h.regions) 64 && each_below (length h.regions) (is_region_at h)
 
--- no block of one extent is one of the other's
+-- the extents share no block
 abbrev pub lie_apart : ℕ × ℕ × ℕ → ℕ × ℕ × ℕ → Bool
 lie_apart e f = nat_le (e.2 + e.1) f.2 || nat_le (f.2 + f.1) e.2
 
 -- Extent i begins at slot 0 or where the one before ends, has a slot, ends at a block that a 32-bit number can name,
--- has no block of an extent before, and has block 0 for slot 0 alone (struct swap_extent).
+-- shares no block with an earlier extent, and has block 0 only for slot 0 (struct swap_extent).
 abbrev pub is_extent : List (ℕ × ℕ × ℕ) → ℕ → Bool
 is_extent extents i =
     ((extent_at extents i).0 == slots_before extents i) && nat_lt 0 (extent_at extents i).1
@@ -89,13 +89,13 @@ is_extent extents i =
     && each_below i (λ j. lie_apart (extent_at extents j) (extent_at extents i))
     && (not ((extent_at extents i).2 == 0) || ((extent_at extents i).0 == 0))
 
--- there are 1 to 64 extents, each in order, and they cover just the slots
+-- there are 1 to 64 extents, each in order, and they cover exactly the slots
 abbrev pub has_extents : Hardware → Bool
 has_extents h =
     nat_lt 0 (length h.extents) && nat_le (length h.extents) 64 && each_below (length h.extents) (is_extent h.extents)
     && (slots_of h.extents == h.slots)
 
--- the first of the parts that is at fault, in this order
+-- the first part at fault, in this order
 unfoldable pub hard_fault : Hardware → Option HardFault
 hard_fault h =
     if not (is_zones h) then Some Zones

@@ -1,14 +1,14 @@
--- How the regions of a machine are kept: a fixed array of them, those past the last one (0, 0, 0).
+-- How a machine keeps its regions: in a fixed array, with (0, 0, 0) past the last one.
 use Rattle.std.specs.Prelude.{◌≡◌, ◌≤◌, ℕ, ◌-◌, List, ◌++◌, length, take, drop, replicate}
 use Rattle.std.proofs.Common.{sym, ap, ap₂, ◌∙◌}
 use Rattle.std.proofs.lemmas.List.{take-append-drop}
 use Rattle.machine.specs.declared.regions.Regions.TheInside.{Inside}
 
--- the regions, as `of` took them
+-- the regions that `of` was given
 abbrev pub kept_regions : Inside → List (ℕ × ℕ × ℕ)
 kept_regions r = take r.len r.regions
 
--- few enough for the array, and past the last only zeros
+-- the array has room for the regions, and only zeros past the last one
 pub record AreKeptRegions (r : Inside) : Type 0 where
   pub few : r.len ≤ 64
   pub whole : length (kept_regions r) ≡ r.len

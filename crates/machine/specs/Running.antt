@@ -1,4 +1,4 @@
--- A machine that can run: what its tasks' requests and their ends need, whatever its disk tells.
+-- A machine that can run: what its tasks' requests and their ends need, whatever the disk tells of its content.
 use Rattle.std.specs.Prelude.{◌≡◌, ◌≢◌, ◌<◌, ℕ, List, length, Option, Some, None, Result, Ok, Err, IfOk, Contains}
 use Rattle.definitions.specs.Tables.{owner_of}
 use Rattle.definitions.specs.Zones.{numbers, top}
@@ -28,8 +28,8 @@ slot_table_of h = record { first = h.slot_table; slots = h.slots }
 abbrev pub AreReserved : Hardware → Memory → Type 0
 AreReserved h m = (p : ℕ) → IsTableFrame h p → (owner_of (frame_entry h m p) ≡ 0) × (frame_entry h m p ≢ 1)
 
--- Slot and page frame of a task's unfinished operation are there, the slot's block is one of the disk's, and the page
--- frame is the task's.
+-- The slot and the page frame of a task's unfinished operation exist, the slot's block is one of the disk's, and the
+-- page frame is the task's.
 pub record IsInFlight (h : Hardware) (blocks : ℕ) (frames : Memory) (t s p : ℕ) : Type 0 where
   pub task : IsTask t
   pub slot : s < h.slots
@@ -37,14 +37,14 @@ pub record IsInFlight (h : Hardware) (blocks : ℕ) (frames : Memory) (t s p : �
   pub valid : Contains (numbers h.zones) p
   pub owner : owner_of (frame_entry h frames p) ≡ t
 
--- so it is for each of them
+-- the same for each unfinished operation
 pub record AreInFlight (h : Hardware) (blocks : ℕ) (frames : Memory) (flights : List Flight) : Type 0 where
   pub outs : (t s p : ℕ) → flights_in flights t ≡ Some (goes_out s p) → IsInFlight h blocks frames t s p
   pub ins : (t s p : ℕ) → flights_in flights t ≡ Some (comes_in s p) → IsInFlight h blocks frames t s p
 
--- A machine that can run: memory has its page frames, the runs are those of its slot table, where the area can be used
--- each slot's block is one of the disk's, the tables' page frames are nobody's, and the unfinished operations have what
--- they need.
+-- A machine that can run: memory has its page frames, the runs are those of its slot table, each slot's block is one of
+-- the disk's if the area can be used, the tables' page frames belong to no task, and the unfinished operations have
+-- what they need.
 pub record CanRun (machine : Machine) (frames : Memory) (runs : SlotRuns) : Type 0 where
   pub size : length frames ≡ top machine.hw.zones
   pub matches : Matches frames (slot_table_of machine.hw) runs

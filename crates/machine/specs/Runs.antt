@@ -1,4 +1,4 @@
--- Runs of page frames, each the first and how many they are.
+-- Runs of page frames, each given by its first page frame and its length.
 use Rattle.std.specs.Prelude.{◌≤◌, ◌⊎◌, ℕ, ◌+◌}
 
 -- one of two runs lies below the other

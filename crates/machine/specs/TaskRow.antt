@@ -1,4 +1,5 @@
--- What a task's request, and the step that ends its operation, make of a machine that runs: steps of the plain machine.
+-- The effect of a task's request, and of the step that ends its operation, on a running machine, as steps of the plain
+-- machine.
 use Rattle.std.specs.Prelude.{◌≡◌, ◌≢◌, ℕ, ◌<◌, ◌==◌, not, Option, None, ⊤}
 use Rattle.definitions.specs.Disk as disk
 use Rattle.definitions.specs.Tables.{owner_of}
@@ -26,9 +27,9 @@ own_refusal h m t p =
     or_else (refused_if (not (is_valid h p)) reply.NoFrame)
     (refused_if (not (owner_of (frame_entry h m p) == t)) reply.NotOwner)
 
--- The reply and the running state b are a step of the plain machine from the running state a. The machine shows b by
--- its page frames and operations now, which name no slot as the image's that wasn't. What is held and why the area
--- can't be used stay.
+-- The reply leads from the running state a to the running state b by a step of the plain machine. The machine's present
+-- page frames and operations show b, and name no slot as the image's that wasn't one before. What is held, and why the
+-- area can't be used, stay.
 pub record GoesOn (h : Hardware) (e : Event) (flag : Held) (why : Option NoSwap) (operations : ℕ →
     Option Flight) (old new : Memory) (r : Reply) (a b : Running) : Type 0 where
   pub step : (v : disk.DiskImage) → Step h v (on a) e r (on b)
@@ -37,36 +38,35 @@ pub record GoesOn (h : Hardware) (e : Event) (flag : Held) (why : Option NoSwap)
   pub unusable : b.unusable ≡ a.unusable
   pub named : (s : ℕ) → s < h.slots → raw_slot_entry h new s ≡ image_slot → raw_slot_entry h old s ≡ image_slot
 
--- the row of a request that looks at page frames alone, whatever else the machine shows, but that its task has no
--- unfinished operation
+-- the row of a request that depends only on page frames, whatever else the machine shows, if its task has no operation
 abbrev pub HasFrameRow : Hardware → ℕ → TaskOp → Memory → Memory → Reply → Type 0
 HasFrameRow h t o old new r =
     (flag : Held) (why : Option NoSwap) (operations : ℕ → Option Flight) → operations t ≡ None → (a : Running) →
     RunsAs h flag why operations old a →
     (b : Running) × GoesOn h (Task t o) flag why operations old new r a b × (b.slots ≡ a.slots)
 
--- the machine and its page frames run as the state says
+-- the machine and its page frames run as state a says
 abbrev pub ShowsAs : Machine → Memory → Running → Type 0
 ShowsAs machine frames a = RunsAs machine.hw machine.held (reason_of machine.area) (flights_in machine.flights) frames a
 
--- where no image is held, no slot is named as the image's
+-- if no image is held, no slot is named as the image's
 abbrev pub NamesNone : Machine → Memory → Type 0
 NamesNone machine frames =
     machine.held ≡ No → (s : ℕ) → s < machine.hw.slots → raw_slot_entry machine.hw frames s ≢ image_slot
 
--- a step from a that leaves the machine as it is but for its operations
+-- a step from state a that leaves the machine as it is except for its operations
 abbrev pub StepsOn : Machine → Memory → Event → Machine → Memory → Reply → Running → Running → Type 0
 StepsOn machine frames e machine' frames' r a b =
     GoesOn machine.hw e machine.held (reason_of machine.area) (flights_in machine'.flights) frames frames' r a b
 
 -- The row of the plain machine for a task's request: whichever running state the machine showed, the reply is a step of
--- it. The pages in the tasks' slots stay.
+-- that state. The pages in the tasks' slots stay.
 abbrev pub SimulatesRequest : Machine → Memory → ℕ → TaskOp → Machine → Memory → Reply → Type 0
 SimulatesRequest machine frames t o machine' frames' r =
     NamesNone machine frames → (a : Running) → ShowsAs machine frames a → (b : Running)
     × StepsOn machine frames (Task t o) machine' frames' r a b × (b.slots ≡ a.slots)
 
--- a reply that refuses what a task asks of a machine that runs
+-- a reply that refuses a task's request to a running machine
 abbrev pub IsRefusal : Reply → Type 0
 IsRefusal reply.InFlight = ⊤
 IsRefusal reply.NoFrame = ⊤

@@ -4,10 +4,10 @@ use Rattle.sig_header.specs.declared.area.Area.{Area}
 use Rattle.sig_header.specs.declared.area.AreaKind.{AreaKind}
 use Rattle.sig_header.specs.declared.area.AreaKind.TheVariants.{Swap}
 
--- a header block's kind is this area
+-- the kind of a header block is this area
 abbrev pub HasKind : AreaKind → Area → Type 0
 HasKind kind area = kind ≡ Swap area
 
--- an extent (first slot, length, first block) has a slot up to `last` that lies on no block of a disk of so many blocks
+-- an extent (first slot, length, first block) has a slot up to `last` past the end of a disk of `blocks` blocks
 abbrev pub Passes : ℕ × ℕ × ℕ → ℕ → ℕ → Type 0
 Passes e last blocks = (blocks - e.2 < e.1) × (e.0 + (blocks - e.2) ≤ last)

@@ -9,8 +9,8 @@ use crate::Hardware;
 use plain_machine::NoSwap;
 use sig_header::{Area, AreaKind};
 
-/// The area of a header block, if the machine can use it on a disk of so many blocks: it is a version 1 area, each of
-/// its slots lies on a block of the disk, and it has the machine's number of slots.
+/// Returns the area of a header block, if the machine can use it on a disk of `blocks` blocks: it is a version 1 area,
+/// each of its slots lies on a block of the disk, and it has the machine's number of slots.
 pub fn usable(hw: &Hardware, blocks: u32, kind: &AreaKind) -> Result<Area, NoSwap>
     ensures { MatchResult result
         (λ area. HasKind kind.now area × (kind_or_fit_fault hw.now blocks kind.now ≡ None))
@@ -45,7 +45,7 @@ fn fitting(hw: &Hardware, blocks: u32, area: &Area) -> Result<Area, NoSwap>
     Ok(*area)
 }
 
-/// Whether a slot up to `last` lies on no block of the disk. Past the last extent that one goes on.
+/// Returns whether a slot up to `last` lies on no block of the disk. Slots past the last extent continue it.
 fn lies_beyond(hw: &Hardware, last: u32, blocks: u32) -> bool
     ensures { result ≡ list_any (λ s. not (nat_lt (block_of_slot hw.now s) blocks)) (range_with_len 0 (last + 1)) }
 {
@@ -53,14 +53,14 @@ fn lies_beyond(hw: &Hardware, last: u32, blocks: u32) -> bool
     map.block(last) >= u64::from(blocks) || some_passes(map.extents(), last, blocks)
 }
 
-/// Whether one of these extents has a slot up to `last` that lies on no block of the disk.
+/// Returns whether one of these extents has a slot up to `last` that lies on no block of the disk.
 fn some_passes(extents: &[(u32, u32, u32)], last: u32, blocks: u32) -> bool
     ensures { IsTrue result ↔ ((i : ℕ) × (i < length extents.now) × Passes (extent_at extents.now i) last blocks) }
 {
     extents.iter().any(|&extent| passes(extent, last, blocks))
 }
 
-/// Whether an extent has a slot up to `last` that lies on no block of the disk.
+/// Returns whether an extent has a slot up to `last` that lies on no block of the disk.
 fn passes(extent: (u32, u32, u32), last: u32, blocks: u32) -> bool
     ensures { IsTrue result ↔ Passes extent last blocks }
 {

@@ -4,7 +4,7 @@ ghost use Rattle.machine.specs.Flights.{flight_in, flights_in};
 
 use crate::Machine;
 
-/// A task's unfinished operation. None is begun while another of the same task is unfinished.
+/// A task's unfinished operation. A task has at most one at a time.
 #[derive(Clone, Copy, Debug, PartialEq, Eq)]
 pub enum Flight {
     Nothing,
@@ -15,7 +15,7 @@ pub enum Flight {
 }
 
 impl Machine {
-    /// Whether task `t` has an unfinished operation.
+    /// Returns whether task `t` has an unfinished operation.
     pub fn is_in_flight(&self, t: u32) -> bool
         ensures { result ≡ is_some (flights_in self.now.flights t) }
     {
@@ -25,14 +25,14 @@ impl Machine {
         }
     }
 
-    /// The lowest task with an unfinished operation.
+    /// Returns the lowest task with an unfinished operation.
     pub fn busy(&self) -> Option<u32>
         ensures { result ≡ find (λ t. is_some (flights_in self.now.flights t)) (range_with_len 1 64) }
     {
         (1..65).find(|&t| self.is_in_flight(t))
     }
 
-    /// The unfinished operation of task `t`.
+    /// Returns the unfinished operation of task `t`.
     pub(crate) fn flight(&self, t: u32) -> Flight
         ensures { flight_in result ≡ flights_in self.now.flights t }
     {

@@ -17,15 +17,15 @@ use plain_machine::NoSwap;
 use sig_header::Area;
 use swap_slots::SlotEntry;
 
-/// The flags of a free page frame, and of one that has none.
+/// The flags of a free page frame, and of one without flags.
 const FREE: u16 = 1;
 
 const IN_USE: u16 = 0;
 
-/// How many entries of 4 bytes a page frame has.
+/// The entries of 4 bytes that a page frame has.
 pub(crate) const ENTRIES: u32 = 1024;
 
-/// Makes the page frames those of fresh memory, but for the slot table's entries: zeros and the frame table, in which
+/// Fills the page frames with fresh memory, except for the slot table's entries: zeros and the frame table, in which
 /// the tables' page frames are in use, those of a region have its flags, and all others are free.
 pub fn set_fresh(frames: &mut Frames, hw: &Hardware)
     requires { length frames.old ≡ top hw.now.zones }
@@ -38,7 +38,7 @@ pub fn set_fresh(frames: &mut Frames, hw: &Hardware)
     }
 }
 
-/// Sets the frame table's entries of a zone.
+/// Sets the entries of a zone's page frames in the frame table.
 fn set_zone(frames: &mut Frames, hw: &Hardware, start: u32, count: u32)
     requires number { start + count ≤ 65536 }
     requires table { HasTable frames.old hw.now.frame_table (start + count) }
@@ -52,7 +52,7 @@ fn set_zone(frames: &mut Frames, hw: &Hardware, start: u32, count: u32)
     }
 }
 
-/// The flags of a page frame in fresh memory.
+/// Returns the flags of a page frame in fresh memory.
 fn fresh_flags(hw: &Hardware, p: u32) -> u16
     requires { p < 65536 }
     ensures { result ≡ fresh_entry hw.now p }
@@ -64,7 +64,7 @@ fn fresh_flags(hw: &Hardware, p: u32) -> u16
     }
 }
 
-/// The flags of the region that has a page frame; outside the regions it is free.
+/// Returns the flags of the region that has a page frame. Outside the regions the page frame is free.
 fn region_flags(regions: &[(u32, u32, u32)], p: u32) -> u16
     requires { All (λ r. r.2 < 128) regions.now }
     ensures { result ≡ region_flags (find (λ r. is_in_region r p) regions.now) }
@@ -76,7 +76,7 @@ fn region_flags(regions: &[(u32, u32, u32)], p: u32) -> u16
     }
 }
 
-/// Whether a page frame is one of the tables'.
+/// Returns whether a page frame is one of the tables'.
 pub(crate) fn is_table_frame(hw: &Hardware, p: u32) -> bool
     requires { p < 65536 }
     ensures { result ≡ is_table_frame hw.now p }
@@ -85,7 +85,7 @@ pub(crate) fn is_table_frame(hw: &Hardware, p: u32) -> bool
         || is_of_table(hw.slot_table(), hw.slots(), p)
 }
 
-/// Whether a page frame is one of a table with so many entries.
+/// Returns whether a page frame is one of a table with `entries` entries.
 fn is_of_table(first: u32, entries: u32, p: u32) -> bool
     requires first { first < 65536 }
     requires entries { entries ≤ 131072 }
@@ -94,8 +94,8 @@ fn is_of_table(first: u32, entries: u32, p: u32) -> bool
     first <= p && p < first + entries.div_ceil(ENTRIES)
 }
 
-/// Sets the slot table's entries in fresh memory: in an area that can be used slot 0 and the bad pages are bad and all
-/// others free, in any other every slot is bad.
+/// Sets the slot table's entries in fresh memory. If the area can be used, slot 0 and the bad pages are bad and all
+/// other slots free; else every slot is bad.
 pub fn set_slots(frames: &mut Frames, hw: &Hardware, area: &Result<Area, NoSwap>)
     requires { length frames.old ≡ top hw.now.zones }
     ensures set { frames.new ≡ with_each_entry (slot_of_area area.now) (range_with_len 0 hw.now.slots) hw.now.slot_table
@@ -108,7 +108,7 @@ pub fn set_slots(frames: &mut Frames, hw: &Hardware, area: &Result<Area, NoSwap>
     }
 }
 
-/// The entry of a slot in a fresh slot table.
+/// Returns the entry of a slot in a fresh slot table.
 fn fresh_slot(area: &Result<Area, NoSwap>, slot: u32) -> SlotEntry
     ensures { word_of result ≡ slot_of_area area.now slot }
 {
@@ -118,7 +118,7 @@ fn fresh_slot(area: &Result<Area, NoSwap>, slot: u32) -> SlotEntry
     }
 }
 
-/// Whether an area's header names a slot bad.
+/// Returns whether an area's header names a slot as bad.
 pub(crate) fn is_bad(area: &Area, slot: u32) -> bool
     ensures { result ≡ list_any (λ q. q == slot) (take area.now.count area.now.bad) }
 {

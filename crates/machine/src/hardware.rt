@@ -24,16 +24,16 @@ pub struct Parts<'a> {
     pub regions: &'a [(u32, u32, u32)],
     /// What the machine's images are tied to.
     pub ident: Ident,
-    /// The hardware signature, 0 where there is none.
+    /// The hardware signature, 0 if there is none.
     pub hw_sig: u32,
     /// Where the slots lie on the blocks of the disk: the first slot, the length and the first block of each extent.
     pub extents: &'a [(u32, u32, u32)],
 }
 
-/// Why parts are no hardware: the first of these that is at fault, in this order.
+/// Why parts make no hardware. The first fault in this order is reported.
 #[derive(Clone, Copy, Debug, PartialEq, Eq, Error)]
 pub enum HardFault {
-    /// The pairs are no zones, as `Zones::of` says.
+    /// The pairs aren't zones, as `Zones::of` says.
     #[error("no zones")]
     Zones,
     /// The slots are fewer than 2 or more than 131,072.
@@ -84,7 +84,7 @@ impl Model for Hardware {
 impl Hardware {
     ghost use Rattle.machine.specs.HardFault.{hardware_of, hard_fault};
 
-    /// The hardware of these parts, where they fit together.
+    /// Makes the hardware of these parts, if they fit together.
     pub fn of(parts: &Parts) -> Result<Hardware, HardFault>
         ensures ok { IsOk result ↔ (hard_fault (hardware_of parts.now) ≡ None) }
         ensures hardware { IfOk result (λ hw. hw ≡ hardware_of parts.now) }
@@ -106,7 +106,7 @@ impl Hardware {
         let Ok(extents) = FileMap::of(parts.extents, parts.slots) else {
             return Err(HardFault::Extents);
         };
-        // Read into a number of its own, the signature is known to have 32 bits.
+        // The signature is read into a variable so that it is known to have 32 bits.
         let hw_sig = parts.hw_sig;
         Ok(Hardware {
             zones,
@@ -127,14 +127,14 @@ impl Hardware {
         &self.zones
     }
 
-    /// How many slots there are: the area's last one and one more.
+    /// Returns how many slots there are: one more than the number of the area's last one.
     pub fn slots(&self) -> u32
         ensures { result ≡ self.now.slots }
     {
         self.slots
     }
 
-    /// The first page frame of the frame table.
+    /// Returns the first page frame of the frame table.
     pub fn frame_table(&self) -> u32
         ensures frame { result ≡ self.now.frame_table }
         ensures hardware { IsHardware self.now }
@@ -142,7 +142,7 @@ impl Hardware {
         self.frame_table
     }
 
-    /// The first page frame of the slot table.
+    /// Returns the first page frame of the slot table.
     pub fn slot_table(&self) -> u32
         ensures frame { result ≡ self.now.slot_table }
         ensures hardware { IsHardware self.now }
@@ -150,7 +150,7 @@ impl Hardware {
         self.slot_table
     }
 
-    /// The page frames that fresh memory gives flags: the first number, the count and the flags of each region.
+    /// Returns the page frames that fresh memory gives flags: the first number, the count and the flags of each region.
     pub fn regions(&self) -> &[(u32, u32, u32)]
         ensures regions { result.now ≡ self.now.regions }
         ensures hardware { IsHardware self.now }
@@ -158,7 +158,7 @@ impl Hardware {
         self.regions.as_slice()
     }
 
-    /// What the machine's images are tied to, as an info page can say it.
+    /// Returns what the machine's images are tied to, as an info page can hold it.
     pub fn ident(&self) -> &Ident
         ensures ident { result.now ≡ self.now.ident }
         ensures code { self.now.ident.version_code < 2 ^ 32 }
@@ -168,7 +168,7 @@ impl Hardware {
         of_its_type(&self.ident)
     }
 
-    /// The hardware signature, 0 where there is none.
+    /// Returns the hardware signature, 0 if there is none.
     pub fn hw_sig(&self) -> u32
         ensures { result ≡ self.now.hw_sig }
     {
@@ -183,18 +183,18 @@ impl Hardware {
     }
 }
 
-/// An identity, which an info page can say by its type.
+/// Returns an identity, which by its type fits an info page.
 fn of_its_type(ident: &Ident) -> &Ident
     ensures same { result.now ≡ ident.now }
     ensures ident { IsIdent ident.now }
 {
-    // Only what is read is known to have the size of its type.
+    // Only a value that is read is known to have the size of its type.
     let _code = ident.version_code;
     let _names = whole(&ident.names);
     ident
 }
 
-/// The names of an identity. Each has 65 bytes by its type.
+/// Returns the names of an identity. By their type each has 65 bytes.
 fn whole(names: &[[u8; 65]]) -> &[[u8; 65]]
     ensures names { result.now ≡ names.now }
     ensures each { All (λ name. length name ≡ 65) names.now }

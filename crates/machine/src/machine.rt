@@ -2,15 +2,15 @@ use crate::{Flight, Hardware};
 use plain_machine::{Held, NoSwap};
 use sig_header::Area;
 
-/// A machine, as far as it isn't its page frames: its hardware, its swap area or why that can't be used, how many
-/// blocks its disk has, whether an image is on it, and its tasks' unfinished operations.
+/// A machine without its page frames: its hardware, its swap area or why that can't be used, how many blocks its disk
+/// has, whether an image is on the disk, and its tasks' unfinished operations.
 #[derive(Clone, Copy)]
 pub struct Machine {
     pub hw: Hardware,
     pub area: Result<Area, NoSwap>,
     pub blocks: u32,
     pub held: Held,
-    /// That of task t, from 1 on, stands at t - 1.
+    /// The unfinished operations; that of task t, from 1 on, is at index t - 1.
     pub flights: [Flight; 64],
 }
 
@@ -18,7 +18,7 @@ impl Machine {
     ghost use Rattle.std.specs.Prelude.{◌≡◌, ◌<◌, ◌^◌, Err, replicate};
     ghost use Rattle.plain_machine.specs.declared.held.Held.TheVariants.{No};
 
-    /// A machine that never ran.
+    /// Makes a machine that never ran.
     pub fn of(hw: Hardware) -> Machine
         ensures hw { result.hw ≡ hw }
         ensures held { result.held ≡ No }
@@ -33,7 +33,7 @@ impl Machine {
             flights: [Flight::Nothing; 64],
         }
     }
-    /// The blocks of the disk have numbers of 32 bits, which is known once their count is read.
+    /// Tells the prover that the disk's blocks have 32-bit numbers, by reading their count.
     pub fn blocks_fit(&self)
         ensures { self.now.blocks < 2 ^ 32 }
     {

@@ -11,20 +11,20 @@ use crate::regions::MOST_REGIONS;
 use crate::tables::table_len;
 use zones::Zones;
 
-/// At most this many slots.
+/// The most slots that a machine may have.
 const MOST_SLOTS: u32 = 131072;
 
-/// No flags are above this: all but that of a free page frame.
+/// The highest flags: all but that of a free page frame.
 const MOST_FLAGS: u32 = 126;
 
-/// Whether a machine may have so many slots.
+/// Returns whether a machine may have this number of slots.
 pub(crate) fn has_slots(parts: &Parts) -> bool
     ensures { result ≡ has_slots (hardware_of parts.now) }
 {
     parts.slots >= 2 && parts.slots <= MOST_SLOTS
 }
 
-/// Whether the page frames of the tables are valid, and none is of both.
+/// Returns whether the page frames of the tables are valid, and the tables share none.
 pub(crate) fn has_tables(parts: &Parts, zones: &Zones) -> bool
     requires zones { zones.now ≡ parts.now.zones.now }
     requires slots { has_slots (hardware_of parts.now) ≡ true }
@@ -38,7 +38,7 @@ pub(crate) fn has_tables(parts: &Parts, zones: &Zones) -> bool
     has_run(zones, frame_table) && has_run(zones, slot_table)
 }
 
-/// The page frames of the frame table: the first and how many they are.
+/// Returns the page frames of the frame table: the first one and their count.
 fn frame_table(parts: &Parts, zones: &Zones) -> (u32, u32)
     requires zones { zones.now ≡ parts.now.zones.now }
     ensures first { result.0 ≡ parts.now.frame_table }
@@ -48,7 +48,7 @@ fn frame_table(parts: &Parts, zones: &Zones) -> (u32, u32)
     (parts.frame_table, table_len(zones.top()))
 }
 
-/// The page frames of the slot table.
+/// Returns the page frames of the slot table: the first one and their count.
 fn slot_table(parts: &Parts) -> (u32, u32)
     ensures first { result.0 ≡ parts.now.slot_table }
     ensures len { result.1 ≡ table_len parts.now.slots }
@@ -56,7 +56,7 @@ fn slot_table(parts: &Parts) -> (u32, u32)
     (parts.slot_table, table_len(parts.slots))
 }
 
-/// Whether the regions are few, each is one, and no page frame lies in two.
+/// Returns whether there are few enough regions, each is valid, and no page frame lies in two.
 pub(crate) fn has_regions(parts: &Parts, zones: &Zones) -> bool
     requires zones { zones.now ≡ parts.now.zones.now }
     requires slots { has_slots (hardware_of parts.now) ≡ true }
@@ -73,7 +73,7 @@ pub(crate) fn has_regions(parts: &Parts, zones: &Zones) -> bool
     true
 }
 
-/// Whether region `k` is one, and has no page frame of a region before.
+/// Returns whether region `k` is valid and shares no page frame with an earlier region.
 fn is_region_at(parts: &Parts, zones: &Zones, k: usize) -> bool
     requires zones { zones.now ≡ parts.now.zones.now }
     requires slots { has_slots (hardware_of parts.now) ≡ true }
@@ -85,7 +85,7 @@ fn is_region_at(parts: &Parts, zones: &Zones, k: usize) -> bool
     is_region(parts, zones, region) && lies_apart(&parts.regions[..k], region)
 }
 
-/// Whether a region isn't empty, has flags that it may have, and has valid page frames that are of no table.
+/// Returns whether a region isn't empty, has valid flags, and has valid page frames that aren't those of a table.
 fn is_region(parts: &Parts, zones: &Zones, region: (u32, u32, u32)) -> bool
     requires zones { zones.now ≡ parts.now.zones.now }
     requires slots { has_slots (hardware_of parts.now) ≡ true }
@@ -94,7 +94,7 @@ fn is_region(parts: &Parts, zones: &Zones, region: (u32, u32, u32)) -> bool
     has_flags(region) && has_frames(parts, zones, (region.0, region.1))
 }
 
-/// Whether a region isn't empty and has flags that it may have.
+/// Returns whether a region isn't empty and has valid flags.
 fn has_flags(region: (u32, u32, u32)) -> bool
     ensures { result ≡ has_flags region }
 {
@@ -102,7 +102,7 @@ fn has_flags(region: (u32, u32, u32)) -> bool
     count > 0 && flags <= MOST_FLAGS && flags % 2 == 0
 }
 
-/// Whether the page frames of a run are valid and of no table.
+/// Returns whether the page frames of a run are valid and not those of a table.
 fn has_frames(parts: &Parts, zones: &Zones, run: (u32, u32)) -> bool
     requires zones { zones.now ≡ parts.now.zones.now }
     requires slots { has_slots (hardware_of parts.now) ≡ true }
@@ -116,7 +116,7 @@ fn has_frames(parts: &Parts, zones: &Zones, run: (u32, u32)) -> bool
     lie_apart(run, frame_table(parts, zones)) && lie_apart(run, slot_table(parts))
 }
 
-/// Whether a region, which isn't empty, has no page frame of the regions before it.
+/// Returns whether a region, which isn't empty, shares no page frame with the regions before it.
 fn lies_apart(before: &[(u32, u32, u32)], region: (u32, u32, u32)) -> bool
     ensures { IsTrue result ↔ ((j : ℕ) → j < length before.now →
         LieApart (frames_of (region_at before.now j)) (frames_of region)) }
@@ -124,7 +124,7 @@ fn lies_apart(before: &[(u32, u32, u32)], region: (u32, u32, u32)) -> bool
     before.iter().all(|&other| lie_apart((other.0, other.1), (region.0, region.1)))
 }
 
-/// Whether of two runs of page frames, each the first and how many they are, one lies below the other.
+/// Returns whether one of two runs of page frames lies below the other. A run is its first page frame and its length.
 fn lie_apart(a: (u32, u32), b: (u32, u32)) -> bool
     ensures { IsTrue result ↔ LieApart a b }
 {
@@ -132,7 +132,7 @@ fn lie_apart(a: (u32, u32), b: (u32, u32)) -> bool
     end(a) <= u64::from(b.0) || end(b) <= u64::from(a.0)
 }
 
-/// Whether each page frame of a run is valid.
+/// Returns whether each page frame of a run is valid.
 fn has_run(zones: &Zones, run: (u32, u32)) -> bool
     ensures { IsTrue result ↔ ((p : ℕ) → run.0 ≤ p → p < run.0 + run.1 → Contains (numbers zones.now) p) }
 {
@@ -144,7 +144,7 @@ fn has_run(zones: &Zones, run: (u32, u32)) -> bool
     u64::from(first) + u64::from(count) <= u64::from(end)
 }
 
-/// The page frame number after the zone, if page frame `end` is one of it, else `end`.
+/// Returns the page frame number after the zone if `end` lies in the zone, else `end`.
 fn reach(zone: (u32, u32), end: u32) -> u32
     requires { IsZone zone }
     ensures inside { zone.0 ≤ end → end < zone_end zone → result ≡ zone_end zone }

@@ -2,11 +2,11 @@ ghost use Rattle.std.specs.Prelude.{◌≡◌, ◌≤◌, length};
 
 use std::marker::Model;
 
-/// At most this many regions.
+/// The most regions that a machine may have.
 pub(crate) const MOST_REGIONS: usize = 64;
 
-/// The runs of page frames that fresh memory gives flags. A contract sees the list of them: the first number, the count
-/// and the flags of each.
+/// The runs of page frames that fresh memory gives flags. Contracts see it as a list: the first number, the count and
+/// the flags of each.
 #[derive(Clone, Copy)]
 pub(crate) struct Regions {
     regions: [(u32, u32, u32); MOST_REGIONS],
@@ -30,7 +30,7 @@ impl Model for Regions {
 }
 
 impl Regions {
-    /// These regions, of which there are few enough.
+    /// Keeps these regions, of which there must be few enough.
     pub(crate) fn of(regions: &[(u32, u32, u32)]) -> Regions
         requires { length regions.now ≤ 64 }
         ensures { result ≡ regions.now }

@@ -26,7 +26,7 @@ use plain_machine::{Held, Left, Reply};
 use sector_disk::Disk;
 use swap_slots::{FreeRuns, SlotEntry};
 
-// Tasks' page frames that go out to slots of the swap area, and come in from there (swap_writepage and swap_readpage,
+// Tasks' page frames go out to slots of the swap area and come in from there (swap_writepage and swap_readpage,
 // mm/page_io.c).
 impl Machine {
     ghost use Rattle.machine.specs.Flights.{flights_in};
@@ -34,9 +34,9 @@ impl Machine {
     ghost use Rattle.machine.specs.Running.{CanRun, slot_table_of};
     ghost use Rattle.machine.specs.TaskRow.{SimulatesRequest, IsRefusal};
 
-    /// Makes the call of the disk that ends a task's operation, which is unfinished no more. An out writes its page
-    /// frame to the slot; where that fails the slot is given back. An in reads the slot into its page frame and gives
-    /// the slot back; where that fails both stay.
+    /// Ends a task's operation by its call of the disk; the operation is then no longer unfinished. An out writes its
+    /// page frame to the slot; if that fails, the slot is given back. An in reads the slot into its page frame and
+    /// gives the slot back; if that fails, both stay as they are.
     pub fn finish<D: Disk>(
         &mut self,
         frames: &mut Frames,
@@ -63,7 +63,7 @@ impl Machine {
         reply
     }
 
-    /// The call of the disk that ends a task's operation, and what it makes of page frames and slots.
+    /// Makes the call of the disk that ends a task's operation, and updates page frames and slots.
     fn end_flight<D: Disk>(
         &self,
         frames: &mut Frames,
@@ -91,7 +91,7 @@ impl Machine {
         }
     }
 
-    /// Writes a page frame's page to a slot's block. Where that fails the slot is given back.
+    /// Writes a page frame's page to a slot's block. If that fails, gives the slot back.
     fn end_out<D: Disk>(
         &self,
         frames: &mut Frames,
@@ -121,7 +121,7 @@ impl Machine {
         }
     }
 
-    /// Reads a slot's block into a page frame, and gives the slot back. Where the read fails both stay.
+    /// Reads a slot's block into a page frame, and gives the slot back. If the read fails, both stay as they are.
     fn end_in<D: Disk>(
         &self,
         frames: &mut Frames,
@@ -188,7 +188,7 @@ impl Machine {
         }
     }
 
-    /// Begins an in: the page in a slot of the task's own is to come to the page frame.
+    /// Begins an in: the page in one of the task's slots is to come into the page frame.
     pub(crate) fn begin_in(
         &mut self,
         frames: &Frames,
@@ -216,7 +216,7 @@ impl Machine {
         Reply::Reading { slot }
     }
 
-    /// Gives the least free slot to a task. None where the area can't be used, or has none.
+    /// Gives the least free slot to a task. Returns None if the area can't be used or has no free slot.
     fn take_slot(&self, frames: &mut Frames, runs: &mut FreeRuns, t: u32) -> Option<u32>
         requires task { IsTask t }
         requires size { length frames.old ≡ top self.now.hw.zones }
@@ -240,7 +240,7 @@ impl Machine {
         }
     }
 
-    /// Whether a slot is the task's. In an area that can't be used none is.
+    /// Returns whether a slot is the task's. In an area that can't be used none is.
     fn owns_slot(&self, frames: &Frames, t: u32, slot: u32) -> bool
         requires task { IsTask t }
         requires size { length frames.now ≡ top self.now.hw.zones }
@@ -255,7 +255,7 @@ impl Machine {
         }
     }
 
-    /// The block of a slot.
+    /// Returns the block of a slot.
     fn block(&self, slot: u32) -> u32
         requires { block_of_slot self.now.hw slot < self.now.blocks }
         ensures block { result ≡ block_of_slot self.now.hw slot }
@@ -274,7 +274,7 @@ impl Machine {
     }
 }
 
-/// Whether an entry says that a task has the slot.
+/// Returns whether an entry says that a task has the slot.
 fn is_tasks(entry: SlotEntry, t: u32) -> bool
     requires { IsTask t }
     ensures { result ≡ (word_of entry == t) }

@@ -22,10 +22,10 @@ use page_states::{PageFlags, entry};
 use sig_header::Area;
 use swap_slots::{SlotEntry, SlotTable};
 
-/// Tasks are numbered from 1 up to this.
+/// The highest number of a task. The lowest is 1.
 const MOST_TASKS: u32 = 64;
 
-/// A machine's slot table.
+/// Returns a machine's slot table.
 pub fn slot_table(hw: &Hardware) -> SlotTable
     ensures table { result ≡ slot_table_of hw.now }
     ensures hardware { IsHardware hw.now }
@@ -36,15 +36,15 @@ pub fn slot_table(hw: &Hardware) -> SlotTable
     }
 }
 
-/// Each page frame has 4096 bytes, so that an entry that is set leaves the others. It is known once they are counted.
+/// Tells the prover, by counting the page frames, that each has 4096 bytes, so setting one entry leaves the others.
 pub fn are_whole(frames: &Frames)
     ensures { All IsPage frames.now }
 {
     let _ = frames.len();
 }
 
-/// Whether the tables in memory are well formed; else the first table frame at fault: it isn't saveable, has an owner,
-/// or an entry in it is one that no valid page frame, or no slot, may have.
+/// Checks that the tables in memory are well formed. Returns the first table frame at fault: it isn't saveable, has an
+/// owner, or has an entry that no valid page frame, or no slot, may have.
 pub fn tables_fit(frames: &Frames, hw: &Hardware) -> Result<(), u32>
     requires { length frames.now ≡ top hw.now.zones }
     ensures fits { IsOk result ↔ (tables_fault hw.now frames.now ≡ None) }
@@ -61,7 +61,7 @@ pub fn tables_fit(frames: &Frames, hw: &Hardware) -> Result<(), u32>
     }
 }
 
-/// Whether no page frame of the frame table is at fault; else the first that is.
+/// Checks the page frames of the frame table. Returns the first at fault.
 fn frame_table_fits(frames: &Frames, hw: &Hardware) -> Result<(), u32>
     requires { length frames.now ≡ top hw.now.zones }
     ensures { MatchResult result
@@ -76,7 +76,7 @@ fn frame_table_fits(frames: &Frames, hw: &Hardware) -> Result<(), u32>
     Ok(())
 }
 
-/// Whether no page frame of the slot table is at fault; else the first that is.
+/// Checks the page frames of the slot table. Returns the first at fault.
 fn slot_table_fits(frames: &Frames, hw: &Hardware) -> Result<(), u32>
     requires { length frames.now ≡ top hw.now.zones }
     ensures { MatchResult result
@@ -91,14 +91,14 @@ fn slot_table_fits(frames: &Frames, hw: &Hardware) -> Result<(), u32>
     Ok(())
 }
 
-/// How many page frames a table with so many entries takes.
+/// Returns how many page frames a table with `entries` entries takes.
 pub(crate) fn table_len(entries: u32) -> u32
     ensures { result ≡ table_len entries }
 {
     entries.div_ceil(ENTRIES)
 }
 
-/// Whether page frame `i` of the frame table, from 0, is faultless: its own entry, and the entries in it.
+/// Returns whether page frame `i` of the frame table, from 0, has no fault: its own entry, and the entries in it.
 fn frame_table_frame_fits(frames: &Frames, hw: &Hardware, i: u32) -> bool
     requires size { length frames.now ≡ top hw.now.zones }
     requires within { i < table_len (top hw.now.zones) }
@@ -107,7 +107,7 @@ fn frame_table_frame_fits(frames: &Frames, hw: &Hardware, i: u32) -> bool
     is_used(frames, hw, hw.frame_table() + i) && entries_fit(frames, hw, i)
 }
 
-/// Whether page frame `i` of the slot table, from 0, is faultless: its own entry, and the entries in it.
+/// Returns whether page frame `i` of the slot table, from 0, has no fault: its own entry, and the entries in it.
 fn slot_table_frame_fits(frames: &Frames, hw: &Hardware, i: u32) -> bool
     requires size { length frames.now ≡ top hw.now.zones }
     requires within { i < table_len hw.now.slots }
@@ -116,7 +116,7 @@ fn slot_table_frame_fits(frames: &Frames, hw: &Hardware, i: u32) -> bool
     is_used(frames, hw, hw.slot_table() + i) && slots_fit(frames, hw, i)
 }
 
-/// Whether a table frame is marked as one: saveable, and no task's.
+/// Returns whether the frame table says of a table frame that it is saveable and no task's.
 fn is_used(frames: &Frames, hw: &Hardware, f: u32) -> bool
     requires size { length frames.now ≡ top hw.now.zones }
     requires table { IsTableFrame hw.now f }
@@ -127,7 +127,7 @@ fn is_used(frames: &Frames, hw: &Hardware, f: u32) -> bool
     is_saveable(flags) && owner == 0
 }
 
-/// Whether an image saves a page frame with these flags (saveable_page, kernel/power/snapshot.c).
+/// Returns whether an image saves a page frame with these flags (saveable_page, kernel/power/snapshot.c).
 fn is_saveable(flags: PageFlags) -> bool
     ensures { result ≡ is_saveable (bits_of flags) }
 {
@@ -138,7 +138,7 @@ fn is_saveable(flags: PageFlags) -> bool
             && (flags.intersects(PageFlags::UNMAPPED) || flags.intersects(PageFlags::NOSAVE)))
 }
 
-/// Whether the entries of the valid page frames that lie in page frame `i` of the frame table are well formed.
+/// Returns whether the entries in page frame `i` of the frame table are well formed, for valid page frames.
 fn entries_fit(frames: &Frames, hw: &Hardware, i: u32) -> bool
     requires size { length frames.now ≡ top hw.now.zones }
     requires within { i < 128 }
@@ -153,7 +153,7 @@ fn entries_fit(frames: &Frames, hw: &Hardware, i: u32) -> bool
     true
 }
 
-/// Whether a page frame's entry is well formed, if the page frame is valid.
+/// Returns whether a page frame's entry is well formed, if the page frame is valid.
 fn entry_fits(frames: &Frames, hw: &Hardware, p: u32) -> bool
     requires { length frames.now ≡ top hw.now.zones }
     ensures { IsTrue result ↔ (Contains (numbers hw.now.zones) p →
@@ -166,8 +166,8 @@ fn entry_fits(frames: &Frames, hw: &Hardware, p: u32) -> bool
     is_well_formed(flags.bits(), owner)
 }
 
-/// Whether a page frame may have these flags and this owner: none above CACHE, nothing beside FREE, and nothing but
-/// CACHE beside an owner.
+/// Returns whether a page frame may have these flags and this owner: no flag above CACHE, nothing beside FREE, and
+/// nothing but CACHE beside an owner.
 fn is_well_formed(flags: u16, owner: u16) -> bool
     ensures { result ≡ is_well_formed (entry_of flags owner) }
 {
@@ -177,7 +177,7 @@ fn is_well_formed(flags: u16, owner: u16) -> bool
         && (flags == 0 || flags == 64 || owner == 0)
 }
 
-/// Whether the slot table's entries in page frame `i` of it are such as their slots may have.
+/// Returns whether the entries in page frame `i` of the slot table are ones that their slots may have.
 fn slots_fit(frames: &Frames, hw: &Hardware, i: u32) -> bool
     requires size { length frames.now ≡ top hw.now.zones }
     requires within { i < 128 }
@@ -192,7 +192,7 @@ fn slots_fit(frames: &Frames, hw: &Hardware, i: u32) -> bool
     true
 }
 
-/// The entry of a slot in the slot table.
+/// Returns the entry of a slot in the slot table.
 fn slot_entry(frames: &Frames, hw: &Hardware, slot: u32) -> SlotEntry
     requires size { length frames.now ≡ top hw.now.zones }
     requires within { slot < hw.now.slots }
@@ -202,7 +202,7 @@ fn slot_entry(frames: &Frames, hw: &Hardware, slot: u32) -> SlotEntry
     slot_table(hw).entry(frames, slot)
 }
 
-/// Whether a slot has an entry that it may have: bad, or free or a task's. Slot 0, the header's, is bad.
+/// Returns whether a slot has an entry that it may have: bad, free or a task's. Slot 0, the header's, is bad.
 fn slot_fits(frames: &Frames, hw: &Hardware, slot: u32) -> bool
     requires size { length frames.now ≡ top hw.now.zones }
     requires within { slot < hw.now.slots }
@@ -216,7 +216,7 @@ fn slot_fits(frames: &Frames, hw: &Hardware, slot: u32) -> bool
     }
 }
 
-/// Whether just the area's bad slots, slot 0 among them, are bad in the slot table.
+/// Returns whether exactly the area's bad slots, slot 0 among them, are bad in the slot table.
 pub fn has_bad_slots(frames: &Frames, hw: &Hardware, area: &Area) -> bool
     requires { length frames.now ≡ top hw.now.zones }
     ensures { result ≡ has_bad_slots_of hw.now frames.now area.now }
@@ -224,7 +224,7 @@ pub fn has_bad_slots(frames: &Frames, hw: &Hardware, area: &Area) -> bool
     are_named(frames, hw, area) && named_are_bad(frames, hw, area)
 }
 
-/// Whether each bad slot of the slot table is one of the area's.
+/// Returns whether each bad slot of the slot table is one of the area's.
 fn are_named(frames: &Frames, hw: &Hardware, area: &Area) -> bool
     requires { length frames.now ≡ top hw.now.zones }
     ensures { IsTrue result ↔ ((s : ℕ) → s < hw.now.slots → raw_slot_entry hw.now frames.now s ≡ bad_slot →
@@ -238,7 +238,7 @@ fn are_named(frames: &Frames, hw: &Hardware, area: &Area) -> bool
     true
 }
 
-/// Whether a slot is bad in the slot table.
+/// Returns whether a slot is bad in the slot table.
 fn is_bad_slot(frames: &Frames, hw: &Hardware, slot: u32) -> bool
     requires size { length frames.now ≡ top hw.now.zones }
     requires within { slot < hw.now.slots }
@@ -247,14 +247,14 @@ fn is_bad_slot(frames: &Frames, hw: &Hardware, slot: u32) -> bool
     matches!(slot_entry(frames, hw, slot), SlotEntry::Bad)
 }
 
-/// Whether a slot is one of an area's bad slots.
+/// Returns whether a slot is one of an area's bad slots.
 fn names(area: &Area, slot: u32) -> bool
     ensures { result ≡ has (bad_slots_of area.now) slot }
 {
     slot == 0 || is_bad(area, slot)
 }
 
-/// Whether each of the area's bad slots that the slot table has is bad there.
+/// Returns whether each of the area's bad slots is bad in the slot table, if the table has the slot.
 fn named_are_bad(frames: &Frames, hw: &Hardware, area: &Area) -> bool
     requires { length frames.now ≡ top hw.now.zones }
     ensures { IsTrue result ↔ ((s : ℕ) → s < hw.now.slots → has (bad_slots_of area.now) s ≡ true →
@@ -269,7 +269,7 @@ fn named_are_bad(frames: &Frames, hw: &Hardware, area: &Area) -> bool
     is_bad_or_beyond(frames, hw, 0)
 }
 
-/// Whether a slot is bad in the slot table, if it has the slot.
+/// Returns whether a slot is bad in the slot table or lies beyond its end.
 fn is_bad_or_beyond(frames: &Frames, hw: &Hardware, slot: u32) -> bool
     requires { length frames.now ≡ top hw.now.zones }
     ensures { IsTrue result ↔ (slot < hw.now.slots → raw_slot_entry hw.now frames.now slot ≡ bad_slot) }

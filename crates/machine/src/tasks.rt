@@ -23,7 +23,7 @@ impl Machine {
     ghost use Rattle.machine.specs.Running.{CanRun};
     ghost use Rattle.machine.specs.TaskRow.{SimulatesRequest, IsRefusal};
 
-    /// What a task asks of a machine that runs: it is done or begun, or refused and nothing changes.
+    /// Takes a task's request to a running machine. It is done or begun, or it is refused and nothing changes.
     pub fn task(&mut self, frames: &mut Frames, runs: &mut FreeRuns, t: u32, op: TaskOp) -> Reply
         requires task { IsTask t }
         requires op { IsFittingOp op }
@@ -149,7 +149,7 @@ fn cache(frames: &mut Frames, hw: &Hardware, t: u32, p: u32) -> Reply
     Reply::Done
 }
 
-/// Whether a page frame is free.
+/// Returns whether a page frame is free.
 fn is_free(frames: &Frames, hw: &Hardware, p: u32) -> bool
     requires valid { Contains (numbers hw.now.zones) p }
     requires frames { length frames.now ≡ top hw.now.zones }
@@ -160,7 +160,7 @@ fn is_free(frames: &Frames, hw: &Hardware, p: u32) -> bool
     entry(frames, hw.frame_table(), p) == (PageFlags::FREE, 0)
 }
 
-/// Why a page frame isn't the task's, if it isn't: it isn't valid, or another's.
+/// Returns why a page frame isn't the task's, if it isn't: it isn't valid, or the task doesn't own it.
 pub(crate) fn not_own(frames: &Frames, hw: &Hardware, t: u32, p: u32) -> Option<Reply>
     requires frames { length frames.now ≡ top hw.now.zones }
     ensures refusal { result ≡ own_refusal hw.now frames.now t p }
@@ -180,7 +180,7 @@ pub(crate) fn not_own(frames: &Frames, hw: &Hardware, t: u32, p: u32) -> Option<
     None
 }
 
-/// Whether the machine has a page frame.
+/// Returns whether the machine has a page frame.
 pub(crate) fn is_valid(hw: &Hardware, p: u32) -> bool
     ensures test { result ≡ is_valid hw.now p }
     ensures valid { IsTrue result → Contains (numbers hw.now.zones) p }
@@ -189,7 +189,7 @@ pub(crate) fn is_valid(hw: &Hardware, p: u32) -> bool
     hw.zones().valid(p)
 }
 
-/// The task that owns a page frame, 0 where none does.
+/// Returns the task that owns a page frame, or 0 if none does.
 fn owner_of(frames: &Frames, hw: &Hardware, p: u32) -> u32
     requires valid { Contains (numbers hw.now.zones) p }
     requires frames { length frames.now ≡ top hw.now.zones }

@@ -1,4 +1,4 @@
--- How `check` may end: it reads a loader's dump, and tells what a resume of the image on the disk would answer.
+-- How `check` may end: it reads a loader's dump, and reports how a resume of the image on the disk would reply.
 use Rattle.std.specs.Prelude.{◌≡◌, ◌≤◌, ◌+◌, [], Some, if◌then◌else◌}
 use Rattle.definitions.specs.Disk as disk
 use Rattle.command_core.specs.declared.ending.Ended.{Ended}
@@ -18,19 +18,19 @@ use Rattle.command_kit.specs.View.{DiskView, View}
 use Rattle.command_kit.specs.declared.status.Status.{Status}
 use Rattle.command_kit.specs.declared.status.Status.TheVariants.{Done}
 
--- a resume that would end well is told on out, and why it wouldn't as a note
+-- the reply of a resume that would end well goes to out; otherwise a note says why it wouldn't
 abbrev pub foretold_told : Ended → RunResult
 foretold_told ended =
     if is_resumed ended.reply then record { status = Done; out = line_of ended.reply; note = [] }
     else stopped_told ended
 
--- the disk was only read: by a resume of 65,800 steps at most
+-- the disk was only read, with at most 65,800 calls
 pub record IsOnlyRead (x x' : DiskView) : Type 0 where
   pub content : x'.content ≡ x.content
   pub orders : x'.orders ≡ x.orders
   pub calls : x'.calls ≤ x.calls + 65800
 
--- What is told is the last reply of a resume's trace over the disk as it reads, unless a call of the disk has failed.
+-- The reply reported is the last of a resume's trace over the disk as it reads, unless a call of the disk has failed.
 pub record IsForetold (check : IdentCheck) (x x' : View) (status : Status) (dump : DumpValue) (memory : Memory)
     (ended : Ended) : Type 0 where
   pub dump_is : IsDump x x' dump
@@ -45,7 +45,7 @@ pub record IsShort (x x' : View) (status : Status) : Type 0 where
   pub told : Tells memory_told status x x'
   pub only_read : IsOnlyRead x.disk x'.disk
 
--- One of these, by what the outside told before and after.
+-- One of these endings, by the outside before and after.
 pub data Checks (check : IdentCheck) (x x' : View) (status : Status) : Type 0 where
   no_dump : (fault : DumpFault) → IsNoDump x x' status fault → Checks check x x' status
   out_of_memory : IsShort x x' status → Checks check x x' status

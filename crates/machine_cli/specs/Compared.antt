@@ -1,4 +1,4 @@
--- How `differ` may end: it reads two dumps, and tells where they differ first.
+-- How `differ` may end: it reads two dumps, and reports their first difference.
 use Rattle.std.specs.Prelude.{◌≡◌, ◌≢◌, ℕ, List, [], ◌++◌, codes, decimal, Option, Some, None, Ok, Err, IsNone, IfSome}
 use Rattle.std.specs.Prelude.{◌↔◌}
 use Rattle.dump_differ.specs.Differences.{AreSame, IsFirst}
@@ -15,7 +15,7 @@ use Rattle.command_kit.specs.View.{SinkView}
 use Rattle.command_kit.specs.declared.status.Status.{Status}
 use Rattle.command_kit.specs.declared.status.Status.TheVariants.{Done, Refused, Stream}
 
--- what is told: `same` with status 0, or with status 1 the first difference, a page frame with its number
+-- what is printed: `same` with status 0, or with status 1 the first difference, a page frame by its number
 abbrev pub difference_told : Option Difference → RunResult
 difference_told None = record { status = Done; out = line (codes "same"); note = [] }
 difference_told (Some Hardware) = record { status = Refused; out = line (codes "hardware"); note = [] }
@@ -32,14 +32,14 @@ pub record IsDifference (a b : DumpValue) (difference : Option Difference) : Typ
   pub none : IsNone difference ↔ AreSame (machine_of a) (machine_of b)
   pub first : IfSome difference (IsFirst (machine_of a) (machine_of b))
 
--- where the bytes are told, they are this dump, or none, with this fault
+-- the bytes, if known, are this dump; or they are no dump, with this fault
 abbrev pub IsOf : Option (List ℕ) → DumpValue → Type 0
 IsOf left dump = (bytes : List ℕ) → left ≡ Some bytes → dump_of bytes ≡ Ok dump
 
 abbrev pub HasFault : Option (List ℕ) → DumpFault → Type 0
 HasFault left fault = (bytes : List ℕ) → left ≡ Some bytes → dump_of bytes ≡ Err fault
 
--- One of these, by the bytes of the two inputs and what the outputs told before and after.
+-- One of these endings, by the bytes of the two inputs and the outputs before and after.
 pub data Compares (first second : Option (List ℕ)) (status : Status) (out out' note note' : SinkView) : Type 0 where
   no_first : (fault : DumpFault) → HasFault first fault → IsTold (dump_told fault) status out out' note note' →
       Compares first second status out out' note note'

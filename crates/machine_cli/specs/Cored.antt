@@ -15,7 +15,7 @@ use Rattle.command_kit.specs.declared.status.Status.TheVariants.{Done}
 abbrev pub core_told : Hardware → Memory → RunResult
 core_told h m = record { status = Done; out = core_of h m; note = [] }
 
--- One of these, by what the outside told before and after.
+-- One of these endings, by the outside before and after.
 pub data Cores (x x' : View) (status : Status) : Type 0 where
   no_dump : (fault : DumpFault) → IsNoDump x x' status fault → Cores x x' status
   out_of_memory : IsOutOfMemory x x' status → Cores x x' status

@@ -1,4 +1,4 @@
--- How `draw` may end: a script is played as in a replay, and out takes the picture of what happened in place of the
+-- How `draw` may end: it plays a script as a replay does, and writes to out a picture of what happened instead of the
 -- replies.
 use Rattle.std.specs.Prelude.{◌≡◌, ◌⊎◌, ℕ, List, [], length, take}
 use Rattle.definitions.specs.Disk.{HasRisen}
@@ -16,7 +16,7 @@ use Rattle.command_kit.specs.View.{View}
 use Rattle.command_kit.specs.declared.status.Status.{Status}
 use Rattle.command_kit.specs.declared.status.Status.TheVariants.{Done, Stream}
 
--- Out took the picture of the replies to all events; it took a front of that of the replies to some first events.
+-- Out took the picture of the replies to all events; or it took the front of a picture of the replies to the first k.
 abbrev pub Draws : ScriptValue → View → View → Type 0
 Draws script x x' =
     (replies : List Reply) × AreReplies x.disk x'.disk script script.events replies
@@ -35,8 +35,8 @@ pub record IsWhole (x x' : View) (status : Status) (script : ScriptValue) : Type
   pub draws : Draws script x x'
   pub note : IsPrinted [] x.note x'.note
 
--- Out failed: it took a front of the picture of a run over first events, and the fault is noted. Or all is printed, and
--- note failed.
+-- Out failed: it took the front of a picture of a run over the first events, and the fault is noted. Or all is printed,
+-- and note failed.
 pub record IsDrawnInPart (x x' : View) (status : Status) (script : ScriptValue) : Type 0 where
   pub script_is : IsScript x x' script
   pub roomy : LieBelow script.hardware x.disk.blocks
@@ -45,7 +45,7 @@ pub record IsDrawnInPart (x x' : View) (status : Status) (script : ScriptValue) 
   pub whose : HasRisen x.out.faults x'.out.faults ⊎ (Draws script x x' × HasRisen x.note.faults x'.note.faults)
   pub note : IsTried sink_note x.note x'.note
 
--- One of these, by what the outside told before and after.
+-- One of these endings, by the outside before and after.
 pub data IsDrawn (x x' : View) (status : Status) : Type 0 where
   no_script : (fault : ScriptFault) → IsNoScript x x' status fault → IsDrawn x x' status
   out_of_memory : IsOutOfMemory x x' status → IsDrawn x x' status

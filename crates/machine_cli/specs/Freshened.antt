@@ -1,4 +1,4 @@
--- How `loader` may end: it reads a dump, and writes that of its machine freshly booted.
+-- How `loader` may end: it reads a dump, and writes the dump of its machine freshly booted.
 use Rattle.std.specs.Prelude.{◌≡◌}
 use Rattle.dump_file.specs.Dump.{DumpValue}
 use Rattle.dump_file.specs.declared.dump.DumpFault.{DumpFault}
@@ -10,7 +10,7 @@ use Rattle.swsusp_cli.specs.Outcome.{IsOutOfMemory, FailsAtSource, Tells}
 use Rattle.command_kit.specs.View.{View}
 use Rattle.command_kit.specs.declared.status.Status.{Status}
 
--- One of these, by what the outside told before and after.
+-- One of these endings, by the outside before and after.
 pub data Freshens (x x' : View) (status : Status) : Type 0 where
   no_dump : (fault : DumpFault) → IsNoDump x x' status fault → Freshens x x' status
   out_of_memory : IsOutOfMemory x x' status → Freshens x x' status

@@ -1,4 +1,4 @@
--- How `make` may end: a script is played, and the memory of the machine that runs at its end is written as a dump.
+-- How `make` may end: it plays a script, and writes the memory of the machine that runs at its end as a dump.
 use Rattle.std.specs.Prelude.{◌≡◌, ℕ, List, [], codes, Some}
 use Rattle.definitions.specs.Disk as disk
 use Rattle.plain_machine.specs.Machine.{Hardware, Memory, IsSameMemory}
@@ -21,16 +21,16 @@ use Rattle.command_kit.specs.declared.status.Status.TheVariants.{Refused}
 abbrev pub idle_told : RunResult
 idle_told = record { status = Refused; out = []; note = line (codes "no machine runs") }
 
--- the machine runs, and this is its memory, but for what free page frames hold
+-- the machine runs, and this is its memory, except for what free page frames hold
 abbrev pub RunsWith : Hardware → Memory → State → Type 0
 RunsWith h m state = (a : Running) × (state ≡ on a) × IsSameMemory h a.memory m
 
--- it doesn't run
+-- the machine doesn't run
 abbrev pub RunsNot : State → Type 0
 RunsNot state = (a : Running) → state ≡ on a → ⊥
 
--- All events were played, and their replies are those of a run of the plain machine, as in a replay; where the disk
--- tells its content the run ends in a machine that runs, or doesn't.
+-- All events were played, and their replies are those of a run of the plain machine, as in a replay. If the disk tells
+-- its content, the run ends in a state that meets `Ends`.
 pub record HasPlayedTo (x x' : View) (script : ScriptValue) (Ends : State → Type 0) : Type 0 where
   pub script_is : IsScript x x' script
   pub roomy : LieBelow script.hardware x.disk.blocks
@@ -38,7 +38,7 @@ pub record HasPlayedTo (x x' : View) (script : ScriptValue) (Ends : State → Ty
   pub are : AreReplies x.disk x'.disk script script.events replies
   pub ends : (c : disk.Content) (told : x.disk.content ≡ Some c) → Ends (are.run c told).end
 
--- One of these, by what the outside told before and after.
+-- One of these endings, by the outside before and after.
 pub data IsMade (x x' : View) (status : Status) : Type 0 where
   no_script : (fault : ScriptFault) → IsNoScript x x' status fault → IsMade x x' status
   out_of_memory : IsOutOfMemory x x' status → IsMade x x' status

@@ -14,7 +14,7 @@ use Rattle.command_kit.specs.declared.status.Status.TheVariants.{Done}
 abbrev pub facts_told : Hardware → Memory → RunResult
 facts_told h m = record { status = Done; out = facts_text h m; note = [] }
 
--- One of these, by what the outside told before and after.
+-- One of these endings, by the outside before and after.
 pub data Shows (x x' : View) (status : Status) : Type 0 where
   no_dump : (fault : DumpFault) → IsNoDump x x' status fault → Shows x x' status
   out_of_memory : IsOutOfMemory x x' status → Shows x x' status

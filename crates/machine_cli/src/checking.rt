@@ -15,8 +15,8 @@ use sector_disk::Disk;
 use std::alloc::Global;
 use swsusp_cli::{dump_of_input, machine_of, stopped};
 
-/// Reads a loader's dump to its end, and tells what a resume of the image on the disk into its machine would answer,
-/// with that test of whose image it is. The disk is only read.
+/// Reads a loader's dump to its end, and reports the reply that a resume of the image on the disk into its machine
+/// would give, with this check of the image's identity. The disk is only read.
 #[inline(never)]
 pub fn check<I: Source, O: Sink, N: Sink, D: Disk>(
     alloc: Global,
@@ -48,7 +48,7 @@ pub fn check<I: Source, O: Sink, N: Sink, D: Disk>(
     }
 }
 
-/// What a resume would say at its end: where it would end well, on out.
+/// Returns what a resume would say at its end. It goes to out if the resume would end well.
 fn foretold(ended: &Ended) -> Answer
     ensures told { told_by result ≡ foretold_told ended.now }
     ensures status { result.status ≢ Status.Stream }

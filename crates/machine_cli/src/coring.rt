@@ -50,8 +50,8 @@ pub fn core<I: Source, O: Sink, N: Sink>(
     }
 }
 
-/// Prints the core file of a dump, and nothing as a note. Where a sink fails the status is `Stream`, and `sink fault`
-/// is tried as a note.
+/// Prints the core file of a dump, and nothing as a note. If a sink fails, the status is `Stream`, and `sink fault` is
+/// tried as a note.
 fn tell_core<O: Sink, N: Sink>(
     dump: &Dump,
     runs: &[(u32, u32)],

@@ -10,7 +10,7 @@ use dump_differ::{Difference, first_difference};
 use std::alloc::Global;
 use swsusp_cli::dump_of_input;
 
-/// Reads two dumps, one after the other, and tells where they differ first, or that an image would save the same of
+/// Reads two dumps, one after the other, and reports their first difference, or that an image would save the same of
 /// both machines.
 #[inline(never)]
 pub fn differ<I: Source, J: Source, O: Sink, N: Sink>(
@@ -42,7 +42,7 @@ pub fn differ<I: Source, J: Source, O: Sink, N: Sink>(
     told_of(first_difference(&a, &b)).tell(out, note)
 }
 
-/// What is told of the first difference of two dumps.
+/// Returns what is printed for the first difference of two dumps.
 fn told_of(difference: Option<Difference>) -> Answer
     ensures told { told_by result ≡ difference_told difference }
     ensures status { result.status ≢ Status.Stream }

@@ -98,7 +98,7 @@ fn draw_run<D: Disk, O: Sink>(
     }
 }
 
-/// Plays events, and draws each one's column before the next event.
+/// Plays events, and draws each event's column before the next event.
 fn draw_events<D: Disk, O: Sink>(
     world: &mut World,
     disk: &mut D,
@@ -153,7 +153,7 @@ fn put_event<O: Sink>(
     put_column(out, lanes, event, reply, line.as_bytes())
 }
 
-/// Out failed: that is noted, once.
+/// Notes, once, that out failed.
 fn cut_off<N: Sink>(note: &mut N) -> Status
     ensures status { result ≡ Status.Stream }
     ensures note { IsTried sink_note

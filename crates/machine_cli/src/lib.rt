@@ -1,4 +1,4 @@
-//! The commands of `swsusp_machine`: machines to try `swsusp` on, in memory dumps.
+//! The commands of `swsusp_machine`: they make machines, as memory dumps, to try `swsusp` on.
 #![tactic(auto)]
 
 mod checking;

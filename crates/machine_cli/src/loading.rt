@@ -10,8 +10,8 @@ use page_core::NoMemory;
 use std::alloc::Global;
 use swsusp_cli::{dump_of_input, tell_dump};
 
-/// Reads a dump to its end, and writes the dump of its machine when it has just booted: a loader, into which an image
-/// can be resumed. No disk is used.
+/// Reads a dump to its end, and writes the dump of its machine just after boot: a loader, into which an image can be
+/// resumed. No disk is used.
 #[inline(never)]
 pub fn loader<I: Source, O: Sink, N: Sink>(
     alloc: Global,

@@ -13,8 +13,8 @@ use std::alloc::Global;
 use swsusp_cli::{parse_input, play_through, set_up, tell_dump};
 use world_core::World;
 
-/// Plays a script over a disk, and writes the memory of the machine that runs at its end as a dump. Where none runs,
-/// that is noted.
+/// Plays a script over a disk, and writes the memory of the machine that runs at its end as a dump. If none runs, a
+/// note says so.
 #[inline(never)]
 pub fn make<I: Source, O: Sink, N: Sink, D: Disk>(
     alloc: Global,
@@ -51,7 +51,7 @@ pub fn make<I: Source, O: Sink, N: Sink, D: Disk>(
     }
 }
 
-/// No machine runs.
+/// Returns the answer that no machine runs.
 fn idle() -> Answer
     ensures told { told_by result ≡ idle_told }
     ensures status { result.status ≡ Status.Refused }

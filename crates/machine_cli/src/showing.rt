@@ -47,7 +47,7 @@ pub fn show_facts<I: Source, O: Sink, N: Sink>(
     tell_facts(&dump, out, note)
 }
 
-/// Prints the facts of a dump, and nothing as a note. Where a sink fails the status is `Stream`, and `sink fault` is
+/// Prints the facts of a dump, and nothing as a note. If a sink fails, the status is `Stream`, and `sink fault` is
 /// tried as a note.
 fn tell_facts<O: Sink, N: Sink>(dump: &Dump, out: &mut O, note: &mut N) -> Status
     requires frames { length dump.now.frames ≡ top dump.now.hw.zones }
@@ -70,7 +70,7 @@ fn tell_facts<O: Sink, N: Sink>(dump: &Dump, out: &mut O, note: &mut N) -> Statu
     Status::Done
 }
 
-/// Prints them to their end, and flushes.
+/// Prints the facts of a dump to their end, and flushes.
 fn print_facts<S: Sink>(dump: &Dump, sink: &mut S) -> Result<(), Failed>
     requires frames { length dump.now.frames ≡ top dump.now.hw.zones }
     ensures printed { OnOk result (IsPrinted (facts_text dump.now.hw dump.now.frames)

@@ -40,6 +40,6 @@ fact_text (fact.NeededSlots format n) = numbers_text (needed_key format) (n ∷ 
 abbrev pub line_text : Fact → List ℕ
 line_text f = fact_text f ++ codes "\n"
 
--- all facts of a machine and its memory, a line each
+-- all facts of a machine and its memory, one per line
 unfoldable pub facts_text : Hardware → Memory → List ℕ
 facts_text h m = flat_map line_text (facts_of h m)

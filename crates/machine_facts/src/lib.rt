@@ -1,4 +1,4 @@
-//! What a dump says of its machine, printed one fact a line.
+//! Prints what a dump says of its machine, one fact per line.
 #![tactic(auto)]
 
 mod printing;
@@ -16,7 +16,7 @@ use machine::Dump;
 use page_core::Failed;
 use printing::print;
 
-/// Prints the facts of a dump, each on a line of its own: a key, and its value's numbers or text. Nothing is flushed.
+/// Prints the facts of a dump, one per line: a key, and its value's numbers or text. Nothing is flushed.
 pub fn show<S: Sink>(sink: &mut S, dump: &Dump) -> Result<(), Failed>
     requires { length dump.now.frames ≡ top dump.now.hw.zones }
     ensures whole { OnOk result (TakesAll (facts_text dump.now.hw dump.now.frames) (S.taken sink.old)

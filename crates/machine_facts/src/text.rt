@@ -6,7 +6,7 @@ use dump_facts::Fact;
 use fact_lines::{put_name, put_numbers};
 use page_core::Format;
 
-/// The line of a fact.
+/// Returns the line of a fact.
 pub(crate) fn line_of(fact: &Fact) -> Line
     ensures { result ≡ line_text fact.now }
 {

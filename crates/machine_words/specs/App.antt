@@ -48,21 +48,21 @@ swap_rule = record (new_rule (codes "swap")) { value_names = 1; required = true 
 abbrev pub check_app : App
 check_app = with_rule (with_rule (new_app (codes "check")) any_kernel_rule) swap_rule
 
--- the program, which has a version and wants one of the commands
+-- the program, which has a version and requires one of the commands
 abbrev pub program_app : App
 program_app =
     on_top (λ top. record top { has_version = true; subcommand_required = true }) (new_app (codes "swsusp_machine"))
 
--- with the commands that play a script
+-- the program with the commands that play a script
 abbrev pub with_players : App → App
 with_players app = with_subcommand (with_subcommand app make_app.top) draw_app.top
 
--- with those that write a memory in another form
+-- the program with the commands that write a memory in another form
 abbrev pub with_writers : App → App
 with_writers app =
     with_subcommand (with_subcommand (with_subcommand app loader_app.top) core_app.top) from_core_app.top
 
--- with those that tell of memories
+-- the program with the commands that report on memories
 abbrev pub with_tellers : App → App
 with_tellers app = with_subcommand (with_subcommand (with_subcommand app show_app.top) differ_app.top) check_app.top
 

@@ -1,4 +1,4 @@
--- A command as it is asked for.
+-- A command as it is requested.
 use Rattle.machine_words.specs.Words.{Asked, make, draw, loader, core, from_core, show, differ, check}
 use Rattle.machine_words.specs.declared.command.Command.{Command}
 use Rattle.machine_words.specs.declared.command.Command.TheVariants.{Make, Draw, Loader, Core, FromCore, Show}

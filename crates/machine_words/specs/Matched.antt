@@ -38,6 +38,6 @@ abbrev pub asked_in : Option (Text × List Row) → Option Asked
 asked_in None = None
 asked_in (Some (name, rows)) = matched_by name rows
 
--- the command is what is asked for, where anything is
+-- the command is what is asked for, if anything is
 abbrev pub AnswersTo : Option Asked → Option Command → Type 0
 AnswersTo asked command = (x : Asked) → asked ≡ Some x → option_map asked_by command ≡ Some x

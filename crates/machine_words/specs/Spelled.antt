@@ -1,4 +1,4 @@
--- Which words a command is spelled by.
+-- Which words spell a command.
 use Rattle.std.specs.Prelude.{◌≡◌, ◌≤◌, ℕ, true, Some, None, List, [], ◌∷◌, codes, decimal, ⊤}
 use Rattle.plain_machine.specs.declared.event.IdentCheck.TheVariants.{Compare, Skip}
 use Rattle.swsusp_words.specs.Words.{is_path}
@@ -16,7 +16,7 @@ IsValid show = ⊤
 IsValid (differ first second) = (is_path first ≡ true) × (is_path second ≡ true)
 IsValid (check ident swap) = is_path swap ≡ true
 
--- the words after the program's name are this command's
+-- the words after the program's name spell this command
 abbrev pub IsSpelled : Asked → List (List ℕ) → Type 0
 IsSpelled make words = words ≡ codes "make" ∷ []
 IsSpelled draw words = words ≡ codes "draw" ∷ []

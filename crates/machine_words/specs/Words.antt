@@ -16,12 +16,12 @@ pub data Asked : Type 0 where
   differ : (first second : List ℕ) → Asked
   check : (ident : IdentCheck) (swap : List ℕ) → Asked
 
--- this, where no word follows
+-- this request, if no word follows
 abbrev pub alone : Asked → List (List ℕ) → Option Asked
 alone asked [] = Some asked
 alone asked (word ∷ words) = None
 
--- the machine of a core file with so many slots, at least two
+-- the machine of a core file with the given number of slots, at least two
 abbrev pub slotted : Option ℕ → Option Asked
 slotted None = None
 slotted (Some slots) = if nat_lt 1 slots then Some (from_core (Some slots)) else None
@@ -49,7 +49,7 @@ check_of (option ∷ swap ∷ []) =
     if pointwise nat_eq option (codes "--any-kernel") && is_path swap then Some (check Skip swap) else None
 check_of (option ∷ swap ∷ more ∷ words) = None
 
--- what a command asks for with its own words
+-- what a command asks for with the words that follow it
 abbrev pub command_by : List ℕ → List (List ℕ) → Option Asked
 command_by command words =
     if pointwise nat_eq command (codes "make") then alone make words
@@ -62,7 +62,7 @@ command_by command words =
     else if pointwise nat_eq command (codes "check") then check_of words
     else None
 
--- What a plain list of words asks for: the program's name, a command, and that command's own. No other list parses.
+-- What a plain list of words asks for: the program's name, a command, and its own words. No other list parses.
 abbrev pub command_of : List (List ℕ) → Option Asked
 command_of [] = None
 command_of (name ∷ []) = None

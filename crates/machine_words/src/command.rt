@@ -11,24 +11,24 @@ pub enum Command<'a> {
     Make,
     /// Plays a script, and writes a picture of what happens.
     Draw,
-    /// Writes the dump of a machine when it has just booted.
+    /// Writes the dump of a machine just after boot.
     Loader,
     /// Writes a dump as a core file.
     Core,
     /// Writes the dump of a machine with the memory of a core file.
     FromCore {
-        /// How many slots it has, from 2 to 131,072; else as many as page frames.
+        /// The machine's number of slots, from 2 to 131,072; else as many as page frames.
         slots: Option<u32>,
     },
     /// Prints what a dump says of its machine.
     Show,
-    /// Tells where two dumps differ first.
+    /// Prints the first difference of two dumps.
     Differ {
         /// The paths of the dumps.
         first: &'a str,
         second: &'a str,
     },
-    /// Tells what a resume of an image would answer.
+    /// Prints the reply that a resume of an image would give.
     Check {
         /// Whether the image must be this kernel's.
         check: IdentCheck,
@@ -43,7 +43,7 @@ impl<'a> Command<'a> {
     ghost use Rattle.machine_words.specs.Refused.{IsRefusedBy, SaysWords};
     ghost use Rattle.machine_words.specs.Words.{command_of};
 
-    /// The command of a plain list of words, of which the first is the program's name. No other list parses.
+    /// Reads the command of a plain list of words, whose first is the program's name. No other list parses.
     pub fn parse(alloc: Global, words: &'a [String]) -> Result<Command<'a>, Unparsed>
         ensures asks { IfOk result (λ command. command_of (map string_bytes words.now) ≡ Some (asked_by command)) }
         ensures refused { IfErr result (IsRefusedBy (map string_bytes words.now)) }

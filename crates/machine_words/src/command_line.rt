@@ -8,7 +8,7 @@ use crate::details;
 use clap::{Arg, ArgAction, Command, value_parser};
 use std::alloc::{AllocError, Global};
 
-/// The commands as clap knows them.
+/// Makes the commands as clap knows them.
 pub(crate) fn command_line<'a>(alloc: Global) -> Result<Command<'a>, AllocError>
     ensures { IfOk result (IsApp machine_app) }
 {
@@ -25,7 +25,7 @@ pub(crate) fn command_line<'a>(alloc: Global) -> Result<Command<'a>, AllocError>
     with_tellers(alloc, writing)
 }
 
-/// The program with the commands that play a script.
+/// Adds the commands that play a script to the program.
 fn with_players<'a>(alloc: Global, program: Command<'a>) -> Result<Command<'a>, AllocError>
     ensures { (app : App) → IsApp app program.entry → IfOk result (IsApp (with_players app)) }
 {
@@ -34,7 +34,7 @@ fn with_players<'a>(alloc: Global, program: Command<'a>) -> Result<Command<'a>, 
         .subcommand(drawing(alloc))
 }
 
-/// The program with those that write a memory in another form.
+/// Adds the commands that write a memory in another form to the program.
 fn with_writers<'a>(alloc: Global, program: Command<'a>) -> Result<Command<'a>, AllocError>
     ensures { (app : App) → IsApp app program.entry → IfOk result (IsApp (with_writers app)) }
 {
@@ -44,7 +44,7 @@ fn with_writers<'a>(alloc: Global, program: Command<'a>) -> Result<Command<'a>, 
         .subcommand(reading(alloc)?)
 }
 
-/// The program with those that tell of memories.
+/// Adds the commands that report on memories to the program.
 fn with_tellers<'a>(alloc: Global, program: Command<'a>) -> Result<Command<'a>, AllocError>
     ensures { (app : App) → IsApp app program.entry → IfOk result (IsApp (with_tellers app)) }
 {
@@ -54,7 +54,7 @@ fn with_tellers<'a>(alloc: Global, program: Command<'a>) -> Result<Command<'a>, 
         .subcommand(trial(alloc)?)
 }
 
-/// A command with its name, what it does, and the rest of its help.
+/// Makes a command with its name, what it does, and the rest of its help.
 fn named<'a>(alloc: Global, name: &'a str, about: &'a str, details: &'a str) -> Command<'a>
     ensures { IsApp (new_app name.entry.now) result }
 {

@@ -1,4 +1,4 @@
-//! What help says of each command after its options.
+//! The help of each command after its options.
 
 pub(crate) const PROGRAM: &str =
     "A machine has at most 65,536 page frames. A command's own help, as `swsusp_machine make --help`,

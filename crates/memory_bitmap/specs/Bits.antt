@@ -33,10 +33,10 @@ pub record ChangesBit (k v : ℕ) (old new : List ℕ) : Type 0 where
 abbrev pub IsEmptyBlock : List ℕ → Type 0
 IsEmptyBlock words = (k : ℕ) → bit_of words k ≡ 0
 
--- bit k is 1 for each k below the count, and for no other
+-- bit k is 1 if and only if k is below the count
 abbrev pub HasFirstBits : ℕ → List ℕ → Type 0
 HasFirstBits count words = (k : ℕ) → (bit_of words k ≡ 1) ↔ (k < count)
 
--- in each block the bits of its page frames are 1, and no other
+-- in each block exactly the bits of its page frames are 1
 abbrev pub AreFilled : List (ℕ × ℕ) → List (List ℕ) → Type 0
 AreFilled runs bits = (j : ℕ) → HasFirstBits (zone_at runs j).1 (slice_index_or bits j [])

@@ -1,4 +1,4 @@
--- What a bitmap is in a contract: the zones that it was made over, and the set of page frames.
+-- What a contract sees of a bitmap: the zones that it was made over, and the set of page frames.
 use Rattle.std.specs.Prelude.{ℕ, List, All, Contains}
 use Rattle.std.specs.List.Sorted.{IsStrictlyIncreasing}
 use Rattle.definitions.specs.Zones.{numbers}

@@ -8,7 +8,7 @@ use std::alloc::Global;
 /// The words of a block: 32768 bits, one for each of its page frames.
 pub const WORDS: usize = 512;
 
-/// Whether bit `k` is 1.
+/// Returns whether bit `k` is 1.
 pub fn has_bit(block: &[u64; WORDS], k: usize) -> bool
     requires { k < 32768 }
     ensures { IsTrue result ↔ (bit_of block.now k ≡ 1) }
@@ -16,7 +16,7 @@ pub fn has_bit(block: &[u64; WORDS], k: usize) -> bool
     block[k / 64] & (1 << (k % 64)) != 0
 }
 
-/// Makes bit `k` 1, and answers whether it was 0.
+/// Sets bit `k` to 1, and returns whether it was 0.
 pub fn set_bit(block: &mut [u64; WORDS], k: usize) -> bool
     requires { k < 32768 }
     ensures was { IsTrue result ↔ (bit_of block.old k ≡ 0) }
@@ -29,7 +29,7 @@ pub fn set_bit(block: &mut [u64; WORDS], k: usize) -> bool
     was_clear
 }
 
-/// Makes bit `k` 0, and answers whether it was 1.
+/// Sets bit `k` to 0, and returns whether it was 1.
 pub fn clear_bit(block: &mut [u64; WORDS], k: usize) -> bool
     requires { k < 32768 }
     ensures was { IsTrue result ↔ (bit_of block.old k ≡ 1) }
@@ -42,7 +42,7 @@ pub fn clear_bit(block: &mut [u64; WORDS], k: usize) -> bool
     was_set
 }
 
-/// The first bit from `from` on that is 1. Words without one are skipped whole.
+/// Returns the first bit from `from` on that is 1. Skips words without one as a whole.
 pub fn first_bit(block: &[u64; WORDS], from: usize) -> Option<usize>
     requires { from < 32768 }
     ensures { MatchOption result (AllClear block.now from 32768) (IsFirstBit block.now from) }
@@ -59,14 +59,14 @@ pub fn first_bit(block: &[u64; WORDS], from: usize) -> Option<usize>
     None
 }
 
-/// A block without bits that are 1.
+/// Returns a block whose bits are all 0.
 fn empty_block() -> [u64; WORDS]
     ensures { IsEmptyBlock result }
 {
     [0; WORDS]
 }
 
-/// So many blocks without bits that are 1.
+/// Makes `count` blocks whose bits are all 0.
 pub fn empty_blocks(alloc: Global, count: usize) -> Result<Vec<[u64; WORDS]>, NoMemory>
     ensures count { IfOk result (λ blocks. vec_len blocks ≡ count) }
     ensures empty { IfOk result (λ blocks. All IsEmptyBlock blocks.items) }
@@ -78,7 +78,7 @@ pub fn empty_blocks(alloc: Global, count: usize) -> Result<Vec<[u64; WORDS]>, No
     Ok(blocks)
 }
 
-/// Makes every bit 0.
+/// Sets every bit to 0.
 pub fn clear_blocks(blocks: &mut [[u64; WORDS]])
     ensures { All IsEmptyBlock blocks.new }
 {
@@ -87,7 +87,7 @@ pub fn clear_blocks(blocks: &mut [[u64; WORDS]])
     }
 }
 
-/// Makes the first `count` bits 1, and the others 0.
+/// Sets the first `count` bits to 1, and the others to 0.
 pub fn fill_first(block: &mut [u64; WORDS], count: usize)
     requires { count ≤ 32768 }
     ensures { HasFirstBits count block.new }
@@ -97,7 +97,7 @@ pub fn fill_first(block: &mut [u64; WORDS], count: usize)
     }
 }
 
-/// The word whose first `count` bits are 1, or all where it has no more.
+/// Returns the word whose first `count` bits are 1, or all its bits if it has no more.
 fn first_ones(count: usize) -> u64
     ensures { result ≡ 2 ^ min count 64 - 1 }
 {

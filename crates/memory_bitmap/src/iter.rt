@@ -21,7 +21,7 @@ impl<'a> Iterator for Iter<'a> {
     ghost remaining = { item_count left_in };
 
     fn next(&mut self) -> Option<u32> {
-        // So the members ascend.
+        // Counting the members tells the prover that they ascend.
         let _ = self.set.len();
         let p = self.set.first_from(self.from)?;
         self.from = p + 1;
@@ -30,7 +30,7 @@ impl<'a> Iterator for Iter<'a> {
 }
 
 impl Bitmap {
-    /// The members in ascending order.
+    /// Returns the members in ascending order.
     pub fn iter(&self) -> Iter<'_>
         ensures members { left_in result ≡ self.now.members }
         ensures set { IsFrameSet self.now }
@@ -38,12 +38,12 @@ impl Bitmap {
         self.iter_from(0)
     }
 
-    /// The members from page frame `p` on, in ascending order.
+    /// Returns the members from page frame `p` on, in ascending order.
     pub fn iter_from(&self, p: u32) -> Iter<'_>
         ensures members { left_in result ≡ members_from p self.now.members }
         ensures set { IsFrameSet self.now }
     {
-        // So the members ascend.
+        // Counting the members tells the prover that they ascend.
         let _ = self.len();
         Iter { set: self, from: p }
     }

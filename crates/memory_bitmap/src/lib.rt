@@ -22,14 +22,14 @@ use std::alloc::Global;
 use std::marker::Model;
 use zones::Zones;
 
-/// A block has bits for at most this many page frames (BM_BITS_PER_BLOCK).
+/// The most page frames that a block has bits for (BM_BITS_PER_BLOCK).
 const BITS: u32 = 32768;
 
-/// A set of valid page frames. In a contract: the zones, and the ascending list of the members.
+/// A set of valid page frames. A contract sees the zones and the ascending list of the members.
 #[derive(Drop)]
 pub struct Bitmap {
     zones: Zones,
-    /// The page frames of each block: the first, and how many.
+    /// The page frames of each block: the first one and their count.
     runs: Vec<(u32, u32)>,
     bits: Vec<[u64; WORDS]>,
     len: u32,
@@ -48,7 +48,7 @@ impl Model for Bitmap {
 }
 
 impl Bitmap {
-    /// The empty set over these zones.
+    /// Makes the empty set over these zones.
     pub fn create(alloc: Global, zones: &Zones) -> Result<Bitmap, NoMemory>
         ensures { IfOk result (λ b. b ≡ record { zones = zones.now; members = [] }) }
     {
@@ -62,7 +62,7 @@ impl Bitmap {
         })
     }
 
-    /// Puts a valid page frame into the set.
+    /// Adds a valid page frame to the set.
     pub fn set(&mut self, p: u32)
         requires { Contains (numbers self.old.zones) p }
         ensures { self.new ≡ record self.old { members = inserted self.old.members p } }
@@ -72,7 +72,7 @@ impl Bitmap {
         }
     }
 
-    /// Takes a valid page frame out of the set.
+    /// Removes a valid page frame from the set.
     pub fn clear(&mut self, p: u32)
         requires { Contains (numbers self.old.zones) p }
         ensures { self.new ≡ record self.old { members = removed self.old.members p } }
@@ -82,7 +82,7 @@ impl Bitmap {
         }
     }
 
-    /// Whether the set has this page frame. A number that isn't valid is in no set.
+    /// Returns whether the set has this page frame. A number that isn't valid is in no set.
     pub fn has(&self, p: u32) -> bool
         ensures { IsTrue result ↔ Contains self.now.members p }
     {
@@ -92,7 +92,7 @@ impl Bitmap {
         }
     }
 
-    /// The least member at or above `p`.
+    /// Returns the least member at or above `p`.
     pub fn first_from(&self, p: u32) -> Option<u32>
         ensures { result ≡ first_from self.now.members p }
     {
@@ -107,7 +107,7 @@ impl Bitmap {
         None
     }
 
-    /// How many members the set has.
+    /// Returns how many members the set has.
     pub fn len(&self) -> u32
         ensures len { result ≡ length self.now.members }
         ensures set { IsFrameSet self.now }
@@ -115,7 +115,7 @@ impl Bitmap {
         self.len
     }
 
-    /// Takes every page frame out of the set.
+    /// Removes every page frame from the set.
     pub fn clear_all(&mut self)
         ensures { self.new ≡ record self.old { members = [] } }
     {
@@ -123,7 +123,7 @@ impl Bitmap {
         self.len = 0;
     }
 
-    /// Puts every valid page frame into the set.
+    /// Adds every valid page frame to the set.
     pub fn set_all(&mut self)
         ensures all { self.new ≡ record self.old { members = numbers self.old.zones } }
         ensures set { IsFrameSet self.new }
@@ -132,7 +132,7 @@ impl Bitmap {
         self.len = self.zones.count();
     }
 
-    /// Makes the set the same as another one.
+    /// Makes the set equal to another one.
     pub fn copy_from(&mut self, members: &Bitmap)
         requires { members.now.zones ≡ self.old.zones }
         ensures { self.new ≡ members.now }
@@ -141,14 +141,14 @@ impl Bitmap {
         self.len = members.len;
     }
 
-    /// How many blocks of bits there are. The blocks of all zones are numbered in order from 0.
+    /// Returns how many blocks of bits there are. The blocks of all zones are numbered in order from 0.
     pub fn blocks(&self) -> u32
         ensures { result ≡ length (blocks self.now.zones) }
     {
         self.runs.len() as u32
     }
 
-    /// The words of a block: bit k mod 64 of word k / 64 is 1 exactly where the block's page frame k is in the set.
+    /// Returns the words of a block: bit k mod 64 of word k / 64 says whether the set has the block's page frame k.
     pub fn words(&self, block: u32) -> &[u64; 512]
         requires { block < length (blocks self.now.zones) }
         ensures { HoldsBits self.now.members (zone_at (blocks self.now.zones) block) result.now }
@@ -157,7 +157,7 @@ impl Bitmap {
     }
 }
 
-/// The page frames of each block: the first, and how many.
+/// Returns the page frames of each block: the first one and their count.
 fn block_runs(alloc: Global, zones: &Zones) -> Result<Vec<(u32, u32)>, NoMemory>
     ensures { IfOk result (λ runs. (runs.items ≡ blocks zones.now) × AreZones zones.now) }
 {
@@ -182,7 +182,7 @@ fn add_blocks(runs: &mut Vec<(u32, u32)>, zone: (u32, u32)) -> Result<(), NoMemo
     Ok(())
 }
 
-/// Makes the bits of each block's page frames 1, and the others 0.
+/// Sets the bits of each block's page frames to 1, and the others to 0.
 fn fill_blocks(bits: &mut [[u64; WORDS]], runs: &[(u32, u32)])
     requires blocks { length bits.old ≡ length runs.now }
     requires few { All (λ run. run.1 ≤ 32768) runs.now }
@@ -193,7 +193,7 @@ fn fill_blocks(bits: &mut [[u64; WORDS]], runs: &[(u32, u32)])
     }
 }
 
-/// Where the bit of a page frame stands: its block, and the place in it.
+/// Returns where the bit of a page frame is: its block, and the index in the block.
 fn place(runs: &[(u32, u32)], p: u32) -> Option<(usize, usize)>
     ensures { MatchOption result (Contains (numbers runs.now) p → ⊥) (IsPlace runs.now p) }
 {

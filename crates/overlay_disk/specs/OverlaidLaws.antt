@@ -1,5 +1,5 @@
--- What the content of an overlay is for its calls: which page a read gives, and what a write, a sync and a restart make
--- of it.
+-- What an overlay's content means for its calls: which page a read gives, and how a write, a sync and a restart change
+-- the content.
 use Rattle.std.proofs.Common.{◌≡◌, ◌≢◌, ℕ, ◌+◌, ◌*◌, ◌<◌, ◌≤◌, ◌⊎◌, true, List, [], ◌∷◌, length, get_or, Contains}
 use Rattle.std.proofs.Common.{Option, Some, None, IfSome, refl, sym, ap, ◌∙◌, inl, inr, subst, arith, zero, suc}
 use Rattle.std.proofs.lemmas.List.{get_or-map, get_or_past}
@@ -33,7 +33,7 @@ IsContent-with_block : (n b : ℕ) (page : List ℕ) (v : DiskImage) → IsPage 
 IsContent-with_block n b page v is whole =
     IsContent-reads n (after (settled v) (Write b page)) (IsContent-after n (settled v) (Write b page) is whole)
 
--- it is the content of a disk of as many blocks as that below
+-- the overlay's content is that of a disk with as many blocks as the disk below
 pub IsContent-over : (n : ℕ) (kept : Option Kept) (c : Option Content) → IfSome c (IsContent n) →
     IfSome (content_over kept c) (IsContent n)
 IsContent-over n kept None whole = tt
@@ -41,7 +41,7 @@ IsContent-over n None (Some c) whole = IsContent-reads n c whole
 IsContent-over n (Some k) (Some c) whole =
     IsContent-with_block n k.block k.page (as_it_reads c) k.whole (IsContent-reads n c whole)
 
--- Image w is v with the page in the place of block b.
+-- Image w is v with the page in place of block b.
 record PutsBlock (b : ℕ) (page : List ℕ) (v w : DiskImage) : Type 0 where
   size : length w ≡ length v
   below : (s : ℕ) → s < 8 * b → get_or w s [] ≡ get_or v s []
@@ -136,7 +136,7 @@ again n b old k c p q lt whole =
     (puts_again b old.page k.page v u w first (with_block-puts b k.page v le)) in
     rw (p, q) both
 
--- a write of a block for which there is room
+-- a write of a block that may be written
 pub Writes-over : (n b : ℕ) (page : List ℕ) (kept : Option Kept) (k : Kept) (c : Option Content) → HasRoom kept b →
     k.block ≡ b → k.page ≡ page → b < n → IfSome c (IsContent n) →
     Changes (Writes b page) (content_over kept c) (content_over (Some k) c)
@@ -177,7 +177,7 @@ block-kept n b page (Some k) c keeps lt whole =
     subst (λ (x : List ℕ). IfSome (content_over (Some k) c) (λ held. x ≡ block (as_it_reads held) b)) keeps.1
     (kept_page n b k c keeps.0 lt whole)
 
--- each other block reads as that of the disk below
+-- every other block reads as on the disk below
 pub block-below : (n b : ℕ) (page : List ℕ) (kept : Option Kept) (c : Option Content) → KeepsNone kept b →
     ForSome kept (λ k. k.block < n) → IfSome c (IsContent n) →
     IfSome c (λ held. page ≡ block (as_it_reads held) b) →

@@ -5,16 +5,16 @@ ghost use Rattle.overlay_disk.specs.DiskState.{DiskState, IsSame};
 use page_core::{Failed, Page};
 use sector_disk::Disk;
 
-/// A disk that is only read.
+/// A disk that is only read from.
 pub trait ReadOnly {
-    /// What it is at a moment.
+    /// The state of the disk at a moment.
     ghost state: { Self → DiskState };
 
-    /// How many blocks it has.
+    /// Returns how many blocks the disk has.
     fn blocks(&self) -> u32
         ensures { result ≡ (state self.now).blocks };
 
-    /// Reads a block. After a failure `into` holds any bytes.
+    /// Reads a block. After a failure `into` may hold any bytes.
     fn read(&mut self, b: u32, into: &mut Page) -> Result<(), Failed>
         requires { b < (state self.old).blocks }
         ensures bytes { OnOk result (IfSome (state self.old).content (λ held. into.new ≡ block (as_it_reads held) b)) }
@@ -23,11 +23,11 @@ pub trait ReadOnly {
         ensures faults { (state self.old).faults ≤ (state self.new).faults }
         ensures calls { (state self.new).calls ≡ raised (state self.old).calls };
 
-    /// A disk that tells its content has, for each sector of its blocks, candidates, and a live one among them.
+    /// If a disk tells its content, each sector of its blocks has candidates, and a live one among them.
     ghost well_formed: { (b : Self) → IfSome (state b).content (IsContent (state b).blocks) };
 }
 
-/// A disk that is lent to be read.
+/// A disk that is borrowed for reading.
 #[derive(Drop)]
 pub struct Lent<'a, D> {
     pub disk: &'a mut D,

@@ -3,7 +3,7 @@ ghost use Rattle.definitions.specs.Bytes.{IsPage};
 
 use page_core::Page;
 
-/// A block that was written, and its page.
+/// A block that was written, with its page.
 #[derive(Drop)]
 pub(crate) struct Kept {
     pub block: u32,

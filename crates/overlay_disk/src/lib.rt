@@ -1,4 +1,4 @@
-//! A disk over one that is only read: what is written stays in memory.
+//! A disk over one that is only read from: what is written stays in memory.
 #![tactic(auto)]
 
 mod below;

@@ -3,7 +3,7 @@ ghost use Rattle.overlay_disk.specs.DiskState.{DiskState};
 
 use std::marker::Brand;
 
-/// What a disk was when an overlay was put over it. It is chosen where `Brand` is passed.
+/// The state of a disk when an overlay was put over it. It is chosen where `Brand` is passed.
 pub trait Original {
     ghost state: { DiskState };
 }

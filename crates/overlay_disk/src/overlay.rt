@@ -9,11 +9,11 @@ use page_core::{Failed, NoMemory, Page};
 use sector_disk::{Disk, Order, Orders};
 use std::marker::PhantomData;
 
-/// A disk over one that is only read. It has memory for one block, the first that is written: a write of any other
-/// fails, and counts as a fault. A block that was written is read from memory, each other from below. A sync, a restart
-/// and an arm change nothing.
+/// A disk over one that is only read from. It has memory for one block, the first that is written: a write of any other
+/// fails, and counts as a fault. A block that was written is read from memory, every other from below. A sync, a
+/// restart and an arm change nothing.
 ///
-/// It tells its content where the disk below does, and no moments.
+/// It tells its content if the disk below does. It tells no moments.
 #[derive(Drop)]
 pub struct Overlay<B: ReadOnly, K: Original> {
     below: B,
@@ -36,7 +36,7 @@ impl<B: ReadOnly, K: Original> Overlay<B, K> {
     ghost use Rattle.definitions.specs.Disk.{HasRisen};
     ghost use Rattle.overlay_disk.specs.Overlaid.{content_over};
 
-    /// An overlay over a disk, which keeps no block yet.
+    /// Puts an overlay, which keeps no block yet, over a disk.
     pub fn over(below: B) -> Overlay<B, K>
         requires { B.state below ≡ K.state }
         ensures content { ⟦<Overlay<B, K> as Disk>⟧.content result ≡ content_over None (B.state below).content }
@@ -55,7 +55,7 @@ impl<B: ReadOnly, K: Original> Overlay<B, K> {
         }
     }
 
-    /// Gives the disk below back. An error says that there was no memory for some block that was to be written.
+    /// Returns the disk below. The error says that memory was lacking for some block that was to be written.
     pub fn into_below(self) -> (B, Result<(), NoMemory>)
         ensures same { IsSame K.state (B.state result.0) }
         ensures calls { (B.state result.0).calls ≤ K.state.calls + ⟦<Overlay<B, K> as Disk>⟧.calls self }
@@ -94,7 +94,8 @@ impl<B: ReadOnly, K: Original> Disk for Overlay<B, K> {
 
     ghost left_since = { λ _ _ _. ⊥ };
 
-    ghost well_formed = { λ o. IsContent-over (B.state o.below).blocks o.kept (B.state o.below).content (B.well_formed o.below) };
+    ghost well_formed = { λ o.
+        IsContent-over (B.state o.below).blocks o.kept (B.state o.below).content (B.well_formed o.below) };
 
     ghost tells_content = { λ o tells. absurd (false≢true tells) };
 

@@ -1,11 +1,11 @@
 use thiserror::Error;
 
-/// A call of a disk, a source or a sink failed. Its count of faults tells that one did.
+/// The failure of a call of a disk, a source or a sink, whose count of faults has risen.
 #[derive(Clone, Copy, Debug, PartialEq, Eq, Error)]
 #[error("the device failed")]
 pub struct Failed;
 
-/// Memory was refused.
+/// A refusal of memory.
 #[derive(Clone, Copy, Debug, PartialEq, Eq, Error)]
 #[error("no memory")]
 pub struct NoMemory;

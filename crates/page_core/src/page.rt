@@ -4,7 +4,7 @@ ghost use Rattle.definitions.specs.Bytes.{number_at, with_number, word, with_wor
 use byteorder::{ByteOrder, LittleEndian};
 use std::marker::Model;
 
-/// A page: the 4096 bytes of a block or of a page frame. Numbers lie in it little-endian.
+/// A page: the 4096 bytes of a block or of a page frame. Numbers in it are little-endian.
 #[derive(Drop)]
 pub struct Page {
     bytes: [u8; 4096],
@@ -20,14 +20,14 @@ impl Model for Page {
 
 #[tactic(auto, unfolding(definitions::specs::Bytes::zero_page, definitions::specs::Bytes::filled_page, definitions::specs::Bytes::with_bytes, definitions::specs::Bytes::number_at, definitions::specs::Bytes::with_number))]
 impl Page {
-    /// The page of zeros.
+    /// Returns the page of zeros.
     pub fn zero() -> Page
         ensures { result ≡ zero_page }
     {
         Page { bytes: [0; 4096] }
     }
 
-    /// The page whose every byte is `byte`.
+    /// Returns the page whose bytes are all `byte`.
     pub fn filled(byte: u8) -> Page
         ensures bytes { result ≡ filled_page byte }
         ensures page { IsPage result }
@@ -44,7 +44,7 @@ impl Page {
         Page { bytes: *b }
     }
 
-    /// Takes the bytes of a slice of 4096 in place of its own.
+    /// Replaces the page's bytes with those of a slice of 4096 bytes.
     pub fn copy_from_slice(&mut self, b: &[u8])
         requires { length b.now ≡ 4096 }
         ensures bytes { self.new ≡ b.now }
@@ -60,7 +60,7 @@ impl Page {
         &self.bytes
     }
 
-    /// The 8-byte number at 8i.
+    /// Returns the 8-byte number at offset 8i.
     pub fn word(&self, i: usize) -> u64
         requires { i < 512 }
         ensures { result ≡ word self.now i }
@@ -68,7 +68,7 @@ impl Page {
         LittleEndian::read_u64(&self.bytes[8 * i..])
     }
 
-    /// Sets the 8-byte number at 8i, and leaves the rest.
+    /// Sets the 8-byte number at offset 8i, and leaves the rest.
     pub fn set_word(&mut self, i: usize, v: u64)
         requires { i < 512 }
         ensures set { self.new ≡ with_word self.old i v }
@@ -77,7 +77,7 @@ impl Page {
         LittleEndian::write_u64(&mut self.bytes[8 * i..8 * i + 8], v);
     }
 
-    /// The 4-byte number at offset k.
+    /// Returns the 4-byte number at offset k.
     pub fn u32_at(&self, k: usize) -> u32
         requires { k ≤ 4092 }
         ensures { result ≡ number_at 4 self.now k }

@@ -1,5 +1,5 @@
--- How waiting pages are kept: two sets and a placement over the same zones. Once planned, the placement is that of the
--- originals with data, in page frames that are free to the loader.
+-- How waiting pages are kept: two sets and a placement over the same zones. Once planned, the placement moves pages to
+-- the originals with data, from page frames that are free to the loader.
 use Rattle.std.specs.Prelude.{◌≡◌, ◌≤◌, true, length}
 use Rattle.definitions.specs.Zones.{top}
 use Rattle.safe_pages.specs.Placed.{targets, IsPlacement, TakesFrom}

@@ -1,4 +1,4 @@
--- Pages of an image that wait until all of them go to their own page frames (prepare_image and get_buffer,
+-- Pages of an image that wait until all of them can go to their own page frames (prepare_image and get_buffer,
 -- kernel/power/snapshot.c).
 use Rattle.std.specs.Prelude.{◌≡◌, ◌≤◌, ◌<◌, ◌+◌, ◌++◌, length, Contains, ℕ, ◌==◌, ◌||◌, not, List, [], ◌∷◌, Option}
 use Rattle.std.specs.Prelude.{Some, None, map, take, filter, if◌then◌else◌}
@@ -8,8 +8,8 @@ use Rattle.definitions.specs.Tables.{frame, with_frame}
 use Rattle.definitions.specs.Zones.{top}
 use Rattle.safe_pages.specs.Placed.{Placed, sources}
 
--- The page frames that are free to the loader, the originals with data of the last plan, where their pages wait, and
--- how many of them wait so far.
+-- The page frames that are free to the loader, the last plan's originals with data, where their pages wait, and how
+-- many of them wait so far.
 pub record Awaiting : Type 0 where
   pub zones : List (ℕ × ℕ)
   pub free : List ℕ
@@ -17,16 +17,16 @@ pub record Awaiting : Type 0 where
   pub placement : Placed
   pub loaded : ℕ
 
--- the originals that aren't among those without data
+-- the originals except those without data
 unfoldable pub with_data : List ℕ → List ℕ → List ℕ
 with_data origs zeros = filter (λ p. not (list_any (λ q. q == p) zeros)) origs
 
--- the pages that wait, in the order of their originals
+-- the waiting pages, in the order of their originals
 abbrev pub waiting_pages : List (List ℕ) → Awaiting → List (List ℕ)
 waiting_pages frames w = map (frame frames) (take w.loaded (sources w.placement.moves))
 
--- The next page waits in page frame p, one that is free to the loader. Whatever is written there, the pages that wait
--- already stay.
+-- The next page waits in page frame p, one that is free to the loader. Whatever is written there, the pages that
+-- already wait stay.
 pub record WaitsNext (w : Awaiting) (p : ℕ) : Type 0 where
   pub free : Contains w.free p
   pub within : (frames : List (List ℕ)) → top w.zones ≤ length frames → p < length frames
@@ -45,8 +45,8 @@ abbrev pub page_or : Option (List ℕ) → List ℕ → List ℕ
 page_or (Some page) other = page
 page_or None other = other
 
--- What page frame p has once the image is back: an original with data has the page that waited for it, any other page
--- frame that is to be cleared or was free to the loader is zero, and the rest is as before.
+-- What page frame p holds once the image is back: an original with data has the page that waited for it, any other page
+-- frame that is to be cleared or was free to the loader is zero, and all others are as before.
 unfoldable pub restored_page : List (List ℕ) → Awaiting → List ℕ → ℕ → List ℕ
 restored_page frames w cleared p =
     page_or (saved_page (zip w.originals (waiting_pages frames w)) p)

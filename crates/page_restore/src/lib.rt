@@ -1,4 +1,4 @@
-//! Pages of an image that is loaded, from where they wait to their own page frames (prepare_image and get_buffer,
+//! Brings the pages of a loaded image from where they wait to their own page frames (prepare_image and get_buffer,
 //! kernel/power/snapshot.c).
 #![tactic(auto)]
 
@@ -25,14 +25,14 @@ use std::marker::{Brand, Model};
 use std::sync::ledger::{Blank, Ledger};
 use zones::Zones;
 
-/// Pages of an image that wait for their page frames, and the page frames that the loader has free. It takes all its
+/// Pages of an image that wait for their page frames, and the page frames that are free to the loader. It takes all its
 /// memory when it is made.
 #[derive(Drop)]
 pub struct Waiting {
     free: Bitmap,
     /// The originals with data.
     origs: Bitmap,
-    /// Whether the placement is that of the last plan.
+    /// Whether the placement is the last plan's.
     ready: bool,
     placement: Placement,
     work: Work,
@@ -52,7 +52,7 @@ impl Model for Waiting {
 }
 
 impl Waiting {
-    /// No page waits, and no page frame is free to the loader.
+    /// Makes a value in which no page waits and no page frame is free to the loader.
     pub fn create(alloc: Global, zones: &Zones) -> Result<Waiting, NoMemory>
         ensures zones { IfOk result (λ w. w.zones ≡ zones.now) }
         ensures empty { IfOk result (λ w. (w.free ≡ []) × (w.originals ≡ []) × (w.loaded ≡ 0)) }
@@ -68,7 +68,7 @@ impl Waiting {
         })
     }
 
-    /// These page frames are free to the loader. Nothing is planned yet.
+    /// Begins with these page frames free to the loader, and nothing planned.
     pub fn begin(&mut self, free: &Bitmap)
         requires { free.now.zones ≡ self.old.zones }
         ensures free { self.new.free ≡ free.now.members }
@@ -83,7 +83,7 @@ impl Waiting {
         self.free.copy_from(free);
     }
 
-    /// Plans where the pages of these originals wait, all but those without data. Refused where too few page frames are
+    /// Plans where the pages of these originals wait, except those without data. Refuses if too few page frames are
     /// free.
     pub fn plan(&mut self, origs: &Bitmap, zeros: &Bitmap) -> Result<(), TooFew>
         requires { origs.now.zones ≡ self.old.zones }
@@ -113,7 +113,7 @@ impl Waiting {
         Ok(())
     }
 
-    /// How many pages don't wait yet.
+    /// Returns how many pages don't wait yet.
     pub fn left(&self) -> u32
         requires { self.now.placement.ready ≡ true }
         ensures { result + self.now.loaded ≡ length self.now.originals }
@@ -121,7 +121,7 @@ impl Waiting {
         self.origs.len() - self.loaded
     }
 
-    /// The page frame in which the page of the next original waits. None where all of them wait.
+    /// Returns the page frame in which the next original's page is to wait, or None if all of them wait.
     pub fn next(&self) -> Option<u32>
         requires { self.now.placement.ready ≡ true }
         ensures all_wait { IsNone result ↔ (self.now.loaded ≡ length self.now.originals) }
@@ -134,21 +134,21 @@ impl Waiting {
         }
     }
 
-    /// Counts the page of the next original, which waits in its page frame now.
+    /// Counts the next original's page, which now waits in its page frame.
     pub fn placed(&mut self)
         requires ready { self.old.placement.ready ≡ true }
         requires left { self.old.loaded < length self.old.originals }
         ensures { self.new ≡ record self.old { loaded = self.old.loaded + 1 } }
     {
-        // So one more can be counted.
+        // This tells the prover that one more can be counted.
         let left = self.loaded < self.origs.len();
         prove!(left);
         self.loaded += 1;
     }
 
-    /// Brings the pages to their page frames at once. Once all are placed, every other page frame of `cleared`, which
-    /// are the originals or those of them without data, is zero afterwards, and so is every other page frame that was
-    /// free to the loader (swsusp_arch_resume, and clear_free_pages of kernel/power/snapshot.c).
+    /// Brings the pages to their page frames all at once. Once all are placed, every other page frame of `cleared`,
+    /// which are the originals or those of them without data, is zero afterwards, and so is every other page frame that
+    /// was free to the loader (swsusp_arch_resume, and clear_free_pages of kernel/power/snapshot.c).
     pub fn finish(&mut self, frames: &mut Frames, cleared: &Bitmap)
         requires ready { self.old.placement.ready ≡ true }
         requires frames { top self.old.zones ≤ length frames.old }
@@ -164,7 +164,7 @@ impl Waiting {
     }
 }
 
-/// Makes the moves of a placement at once. The list frames and the bounce frame have anything afterwards.
+/// Makes the moves of a placement all at once. Afterwards the list frames and the bounce frame may hold anything.
 fn move_pages<L: Ledger>(placement: &Placement, work: &mut Work, frames: &mut Frames, blank: Blank)
     requires name { blank.name ≡ L.name }
     requires parts { blank.parts ≡ L.parts }

@@ -7,13 +7,13 @@ ghost use Rattle.page_restore.specs.Waiting.{with_data};
 use frame_arena::Frames;
 use memory_bitmap::Bitmap;
 
-/// Makes the set that of the originals that aren't among those without data.
+/// Makes `set` the originals except those without data.
 pub(crate) fn mark_with_data(set: &mut Bitmap, origs: &Bitmap, zeros: &Bitmap)
     requires { set.old.zones ≡ origs.now.zones }
     ensures { set.new ≡ record set.old { members = with_data origs.now.members zeros.now.members } }
 {
     set.copy_from(origs);
-    // So its members are valid.
+    // Counting the originals tells the prover that they are valid.
     let _ = origs.len();
     for p in zeros.iter() {
         if set.has(p) {
@@ -22,7 +22,7 @@ pub(crate) fn mark_with_data(set: &mut Bitmap, origs: &Bitmap, zeros: &Bitmap)
     }
 }
 
-/// Sets each page frame of a set to zero that isn't in the other one.
+/// Sets to zero each page frame of a set that isn't in `kept`.
 pub(crate) fn zero_apart(frames: &mut Frames, set: &Bitmap, kept: &Bitmap)
     requires { top set.now.zones ≤ length frames.old }
     ensures zero { (p : ℕ) → Contains set.now.members p → (Contains kept.now.members p → ⊥) →

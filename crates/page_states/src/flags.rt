@@ -3,8 +3,8 @@ ghost use Rattle.page_states.specs.Flags.{bits_of};
 
 use bitflags::{Flag, Flags, bitflag_items};
 
-/// What the frame table says of a page frame (struct page's flags, as far as kernel/power/snapshot.c asks for them).
-/// Every one of the 16 bits is kept, also those that have no name.
+/// The flags of a page frame in the frame table (struct page's flags, as far as kernel/power/snapshot.c needs them).
+/// All 16 bits are kept, even those without a name.
 #[derive(Clone, Copy, PartialEq, Eq, Debug)]
 pub struct PageFlags(u16);
 

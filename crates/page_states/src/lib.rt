@@ -11,10 +11,10 @@ use bitflags::Flags;
 pub use flags::PageFlags;
 use frame_arena::Frames;
 
-/// A page frame of the table has so many entries of 4 bytes.
+/// The entries of 4 bytes that a page frame of the table holds.
 const ENTRIES: u32 = 1024;
 
-/// The state of page frame `p` in the frame table that begins at page frame `table`: its flags, and its owner.
+/// Returns the flags and the owner of page frame `p`, from the frame table that begins at page frame `table`.
 #[tactic(auto, unfolding(definitions::specs::Tables::entry_at))]
 pub fn entry(frames: &Frames, table: u32, p: u32) -> (PageFlags, u16)
     requires { table + p / 1024 < length frames.now }
@@ -39,7 +39,7 @@ pub fn set_entry(frames: &mut Frames, table: u32, p: u32, flags: PageFlags, owne
     frames.put_u32(entry_frame(frames, table, p), entry_offset(p), entry);
 }
 
-/// The page frame of the table that has the entry of `p`.
+/// Returns the page frame of the table that has the entry of `p`.
 fn entry_frame(frames: &Frames, table: u32, p: u32) -> u32
     requires { table + p / 1024 < length frames.now }
     ensures { result ≡ table + p / 1024 }
@@ -49,7 +49,7 @@ fn entry_frame(frames: &Frames, table: u32, p: u32) -> u32
     table + p / ENTRIES
 }
 
-/// Where the entry of `p` stands in its page frame of the table.
+/// Returns the offset of the entry of `p` in its page frame of the table.
 fn entry_offset(p: u32) -> usize
     ensures { result ≡ 4 * (p % 1024) }
 {

@@ -1,4 +1,4 @@
--- Places of members in a set of page frames, and what an image says of them.
+-- Places of members in a set of page frames, and their numbers in an image.
 use Rattle.std.specs.Prelude.{◌≡◌, ◌≤◌, ◌<◌, ℕ, ◌+◌, ◌-◌, ◌*◌, ◌/◌, ◌%◌, ◌^◌, ◌==◌, Contains, List, [], length, filter}
 use Rattle.std.specs.Prelude.{nat_lt, Option, Some, None, if◌then◌else◌}
 use Rattle.std.specs.List.{list_any}
@@ -13,16 +13,16 @@ use Rattle.memory_bitmap.specs.FrameSet.{FrameSet}
 unfoldable pub count_below : List ℕ → ℕ → ℕ
 count_below members p = length (filter (λ q. nat_lt q p) members)
 
--- the page frames of a set, none where there is no set
+-- the page frames of a set; none if there is no set
 abbrev pub members_in : Option FrameSet → List ℕ
 members_in None = []
 members_in (Some set) = set.members
 
--- the number of a page frame as an image has it: bit 63 is set where its page was all zero
+-- the number of a page frame in an image: bit 63 is set if its page was all zero
 abbrev pub marked_number : List ℕ → ℕ → ℕ
 marked_number zeros p = if list_any (λ q. q == p) zeros then p + zero_bit else p
 
--- the bits of a word that are 1 lie in so many places from bit `low` on, of which the first and the last are 1
+-- the bits of a word that are 1 lie within `width` places from bit `low` on, the first and the last of which are 1
 pub record IsSpan (word low width : ℕ) : Type 0 where
   pub some : 0 < width
   pub within : low + width ≤ 64
@@ -38,11 +38,11 @@ runs set = blocks set.zones
 abbrev pub start : FrameSet → ℕ → ℕ
 start set b = (zone_at (runs set) b).0
 
--- which word has the bit of a number, where the words of all blocks are numbered in order
+-- the index of the word with a number's bit; the words of all blocks are numbered in order
 abbrev pub word_of : FrameSet → ℕ → ℕ → ℕ
 word_of set q b = 512 * b + (q - start set b) / 64
 
--- Word w: its bits are the members that it stands for.
+-- The value of word w: its bits are the members that it stands for.
 pub record IsWord (set : FrameSet) (w word : ℕ) : Type 0 where
   pub within : w / 512 < length (runs set)
   pub fits : word < 2 ^ 64

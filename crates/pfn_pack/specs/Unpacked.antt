@@ -1,4 +1,4 @@
--- How far the number pages of an image are read.
+-- How far the number pages of an image have been read.
 use Rattle.std.specs.Prelude.{◌≤◌, ℕ, List, Option, Some, None, Contains}
 use Rattle.page_core.specs.declared.format.Format.{Format}
 

@@ -1,5 +1,5 @@
 //! The pages of frame numbers that follow the info page of an image (kernel/power/snapshot.c, pack_pfns and
-//! unpack_orig_pfns): 512 numbers in each, ascending, and after the last one 2^64-1 where it doesn't fill its page.
+//! unpack_orig_pfns): 512 ascending numbers each. 2^64-1 follows the last number unless that fills its page.
 #![tactic(auto)]
 
 mod packing;

@@ -8,13 +8,13 @@ ghost use Rattle.pfn_pack.specs.Places.{members_in, marked_number, count_below, 
 use memory_bitmap::Bitmap;
 use page_core::Page;
 
-/// How many numbers a page has.
+/// The numbers of a page.
 const NUMBERS: u32 = 512;
 
-/// How many words a block of a set has.
+/// The words of a block of a set.
 const WORDS: u32 = 512;
 
-/// What follows the last number where its page isn't full (BM_END_OF_MAP).
+/// The word after the last number if its page isn't full (BM_END_OF_MAP).
 const END: u64 = u64::MAX;
 
 /// The bit that marks the number of a page of zeros, which has no data page in the image.
@@ -39,7 +39,7 @@ pub fn pack(origs: &Bitmap, zeros: Option<&Bitmap>, k: u32, page: &mut Page)
     }
 }
 
-/// The number of a page frame as an image has it.
+/// Returns the number of a page frame as an image has it.
 fn marked(p: u32, zeros: Option<&Bitmap>) -> u64
     ensures { result ≡ marked_number (members_in (option_copied zeros.entry)) p }
 {
@@ -51,7 +51,7 @@ fn marked(p: u32, zeros: Option<&Bitmap>) -> u64
     }
 }
 
-/// Whether a page frame is in a set, if there is one.
+/// Returns whether there is a set and a page frame is in it.
 fn is_in(set: Option<&Bitmap>, p: u32) -> bool
     ensures { result ≡ list_any (λ q. q == p) (members_in (option_copied set.entry)) }
 {
@@ -61,7 +61,7 @@ fn is_in(set: Option<&Bitmap>, p: u32) -> bool
     }
 }
 
-/// A number that just so many members of a set lie below.
+/// Returns a number with exactly `count` members of a set below it.
 fn behind(set: &Bitmap, count: u32) -> u32
     requires set { IsFrameSet set.now }
     requires members { count ≤ length set.now.members }
@@ -83,7 +83,7 @@ fn behind(set: &Bitmap, count: u32) -> u32
     from
 }
 
-/// A word of a set. The words of all blocks are numbered in order from 0.
+/// Returns a word of a set. The words of all blocks are numbered in order from 0.
 fn word_of(set: &Bitmap, w: u32) -> u64
     requires set { IsFrameSet set.now }
     requires within { w < 512 * length (blocks set.now.zones) }
@@ -92,7 +92,7 @@ fn word_of(set: &Bitmap, w: u32) -> u64
     set.words(w / WORDS)[(w % WORDS) as usize]
 }
 
-/// A number that just so many more members lie below than below `from`.
+/// Returns a number with exactly `more` more members below it than `from` has.
 fn behind_more(set: &Bitmap, from: u32, more: u32) -> u32
     requires set { IsFrameSet set.now }
     requires members { count_below set.now.members from + more ≤ length set.now.members }
@@ -106,7 +106,7 @@ fn behind_more(set: &Bitmap, from: u32, more: u32) -> u32
     past
 }
 
-/// How many places there are from the lowest bit of a word that is 1 to the highest.
+/// Returns how many places there are from the lowest bit of a word that is 1 to the highest.
 fn width(word: u64) -> u32
     requires { 0 < word }
     ensures { (low : ℕ) × IsSpan word low result }

@@ -8,22 +8,22 @@ use std::marker::Model;
 use thiserror::Error;
 use zones::Zones;
 
-/// How many numbers fill a page.
+/// The numbers that fill a page.
 const PAGE_NUMBERS: u32 = 512;
 
-/// What follows the last number where its page isn't full (BM_END_OF_MAP).
+/// The word after the last number if its page isn't full (BM_END_OF_MAP).
 const END: u64 = u64::MAX;
 
-/// The bit of a number whose page has no data page.
+/// The bit that marks a number whose page has no data page.
 const ZERO_BIT: u64 = 1 << 63;
 
 /// What is wrong with a number page: the first word at fault.
 #[derive(Clone, Copy, Debug, PartialEq, Eq, Error)]
 pub enum PfnFault {
-    /// Not a valid page frame number.
+    /// The number isn't a valid page frame number.
     #[error("bad pfn {pfn}")]
     BadPfn { pfn: u64 },
-    /// Number b isn't above a, the one before.
+    /// Number `b` isn't above number `a` before it.
     #[error("pfn order {a} {b}")]
     PfnOrder { a: u64, b: u64 },
     /// The last page isn't full, and the word after the last number isn't 2^64-1.
@@ -31,8 +31,8 @@ pub enum PfnFault {
     PfnEnd { found: u64 },
 }
 
-/// The number pages of an image as they are read, one after another. A contract sees how many numbers there are, the
-/// format, how many were read, and the last of those.
+/// A reader of the number pages of an image, which come one after another. A contract sees how many numbers there are,
+/// the format, how many were read, and the last of those.
 #[derive(Drop)]
 pub struct Unpack {
     n: u32,
@@ -55,7 +55,7 @@ impl Unpack {
     ghost use Rattle.pfn_pack.specs.Numbers.{after_page, first_below, fault_in, before_in, end_fault};
     ghost use Rattle.pfn_pack.specs.declared.unpack.PfnFault.{PfnFault};
 
-    /// The number pages of `n` numbers, none of which is read yet.
+    /// Makes a reader of the number pages of `n` numbers that has read none.
     pub fn begin(n: u32, format: Format) -> Unpack
         ensures { result ≡ record { n = n; format = format; read = 0; last = None } }
     {
@@ -67,8 +67,8 @@ impl Unpack {
         }
     }
 
-    /// Reads the next number page. Its numbers go into `origs`, and those of pages without a data page into `zeros`
-    /// too. A page that is refused changes nothing.
+    /// Reads the next number page. Its numbers go into `origs`, and those of pages without a data page also into
+    /// `zeros`. A page that is refused changes nothing.
     pub fn feed(
         &mut self,
         page: &Page,
@@ -108,7 +108,7 @@ impl Unpack {
         Ok(())
     }
 
-    /// The number of a word.
+    /// Returns the number that a word holds.
     fn number(&self, word: u64) -> u64
         ensures { result ≡ number_by self.now.format word }
     {
@@ -118,7 +118,7 @@ impl Unpack {
         }
     }
 
-    /// Whether the page of a word has no data page.
+    /// Returns whether the page of a word's number has no data page.
     fn is_marked(&self, word: u64) -> bool
         ensures { result ≡ is_marked_by self.now.format word }
     {
@@ -128,7 +128,7 @@ impl Unpack {
         }
     }
 
-    /// Tests the first `count` numbers of a page, and tells the last one.
+    /// Tests the first `count` numbers of a page, and returns the last one.
     fn check(&self, page: &Page, zones: &Zones, count: u32) -> Result<Option<u32>, PfnFault>
         requires { count ≤ 512 }
         ensures ok { IsOk result ↔ (first_below (fault_in zones.now self.now page.now) count ≡ None) }
@@ -194,7 +194,7 @@ ghost use Rattle.std.specs.List.{list_any, Contains};
 ghost use Rattle.definitions.specs.Zones.{numbers};
 ghost use Rattle.pfn_pack.specs.declared.unpack.PfnFault.{PfnFault};
 
-/// The page frame of a number that is valid and above the one before.
+/// Returns the page frame of a number that is valid and above the one before.
 fn accept(zones: &Zones, before: Option<u32>, number: u64) -> Result<u32, PfnFault>
     ensures ok { IsOk result ↔ (number_fault zones.now before number ≡ None) }
     ensures fault { (fault : PfnFault) → (result ≡ Err fault) ↔ (number_fault zones.now before number ≡ Some fault) }
@@ -210,7 +210,7 @@ fn accept(zones: &Zones, before: Option<u32>, number: u64) -> Result<u32, PfnFau
     }
 }
 
-/// The page frame with this number, where it is valid.
+/// Returns the page frame with this number, if it is valid.
 fn valid_frame(zones: &Zones, number: u64) -> Option<u32>
     ensures valid { IsSome result ↔ (list_any (λ q. q == number) (numbers zones.now) ≡ true) }
     ensures same { IfSome result (λ p. p ≡ number) }

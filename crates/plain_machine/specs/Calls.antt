@@ -1,4 +1,4 @@
--- The calls of the disk that an operation makes, one a step, each by the number of steps before it.
+-- The calls of the disk that an operation makes, one for each step, by the number of steps made before it.
 -- In Linux: swsusp_write and mark_swapfiles, swsusp_check, swsusp_read and swsusp_unmark, kernel/power/swap.c.
 use Rattle.std.specs.Prelude.{ℕ, ◌+◌, ◌-◌, zero, suc, Bool, true, false, nat_lt, Option, Some, None, if◌then◌else◌}
 use Rattle.plain_machine.specs.Image.{Image, pages_of, maps_of}

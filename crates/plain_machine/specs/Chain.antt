@@ -32,8 +32,9 @@ Marked h v = IsMarked (header_of h v)
 abbrev pub is_marked_disk : Hardware → disk.DiskImage → Bool
 is_marked_disk h v = pointwise nat_eq (sig_of (header_of h v)) image_signature
 
--- Whether block x is at fault in a chain, where the slots lie so on that many blocks, up to the last slot: it is the
--- header's, or no block of a slot from 1 to the last that the disk has. Past the last extent that one goes on.
+-- Whether block x is at fault in a chain, given the extents, the number of blocks of the disk and the last slot: x is
+-- the header's block, or lies outside the blocks that the disk has for slots 1 to `last`. Slots past the last extent
+-- continue it.
 abbrev pub is_fault_of : List (ℕ × ℕ × ℕ) → ℕ → ℕ → ℕ → Bool
 is_fault_of extents blocks last x =
     (x == block_of extents 0)

@@ -1,4 +1,4 @@
--- Replies that tell of a call of the disk that failed.
+-- The replies that report a failed call of the disk.
 use Rattle.std.specs.Prelude.{⊤}
 use Rattle.plain_machine.specs.declared.reply.Reply.{Reply}
 use Rattle.plain_machine.specs.declared.reply.Reply.TheVariants as reply

@@ -36,7 +36,7 @@ fresh_page h slots p =
     else (if is_of_table h.slot_table h.slots p then table_page h.slot_table (slot_table_entry h slots) p
     else zero_page)
 
--- with these slots
+-- fresh memory with these slot entries
 unfoldable pub fresh_memory : Hardware → (ℕ → ℕ) → Memory
 fresh_memory h slots = map (fresh_page h slots) (range_with_len 0 (top h.zones))
 
@@ -44,7 +44,7 @@ fresh_memory h slots = map (fresh_page h slots) (range_with_len 0 (top h.zones))
 unfoldable pub fresh_frames : Hardware → Memory
 fresh_frames h = fresh_memory h (λ s. 0)
 
--- What fills a table leaves: memory with the entry of each of these numbers set by a rule.
+-- Memory after a table was filled: the entry of each of these numbers is set by a rule.
 unfoldable pub with_each_entry : (ℕ → ℕ) → List ℕ → ℕ → Memory → Memory
 with_each_entry entry [] table m = m
 with_each_entry entry (k ∷ ks) table m = with_each_entry entry ks table (with_entry m table k (entry k))

@@ -103,7 +103,7 @@ page_place k = k + k / 511 + 1
 abbrev pub map_place : ℕ → ℕ
 map_place j = 512 * j
 
--- the block of the free slot that is taken after so many others
+-- the block of the free slot that is taken after `place` others
 abbrev pub laid_block : List (ℕ × ℕ × ℕ) → List ℕ → ℕ → ℕ
 laid_block extents free place = block_of extents (slice_index free place)
 
@@ -111,8 +111,8 @@ laid_block extents free place = block_of extents (slice_index free place)
 abbrev pub laid_entries : List (ℕ × ℕ × ℕ) → List ℕ → ℕ → ℕ → List ℕ
 laid_entries extents free k n = map (λ i. laid_block extents free (page_place i)) (range_with_len k n)
 
--- Map j of a stream of so many pages: the blocks of its pages, and the block of the next map, or 0 where it is the last
--- one (struct swap_map_page).
+-- Map j of a stream of `pages` pages: the blocks of its pages, and the block of the next map, or 0 in the last one
+-- (struct swap_map_page).
 unfoldable pub laid_map : List (ℕ × ℕ × ℕ) → List ℕ → ℕ → ℕ → List ℕ
 laid_map extents free pages j =
     map_page (laid_entries extents free (511 * j) (min 511 (pages - 511 * j)))
@@ -127,8 +127,8 @@ is_map_write pages k = (k % 512 == 511) || (k + 1 == pages + maps_of pages)
 abbrev pub page_of_write : ℕ → ℕ
 page_of_write k = k - k / 512
 
--- Write k of a stream of so many pages, whose page is this one where the write isn't one of a map: the block, and what
--- is written there.
+-- Write k of a stream of `pages` pages: the block, and what is written there, which is `page` unless the write is one
+-- of a map.
 abbrev pub laid_write : List (ℕ × ℕ × ℕ) → List ℕ → ℕ → List ℕ → ℕ → ℕ × List ℕ
 laid_write extents free pages page k =
     if is_map_write pages k then (laid_block extents free (map_place (k / 512)), laid_map extents free pages (k / 512))

@@ -88,7 +88,7 @@ table_frames h =
     if nat_lt h.frame_table h.slot_table then frame_table_frames h ++ slot_table_frames h
     else slot_table_frames h ++ frame_table_frames h
 
--- page frame f is one of a table that begins at `first` and has so many entries; it is one of the two tables'
+-- page frame f belongs to the table of `entries` entries that begins at page frame `first`; to one of the two tables
 pub record IsOfTable (first entries f : ℕ) : Type 0 where
   pub from : first ≤ f
   pub below : f < first + table_len entries
@@ -96,8 +96,8 @@ pub record IsOfTable (first entries f : ℕ) : Type 0 where
 abbrev pub IsTableFrame : Hardware → ℕ → Type 0
 IsTableFrame h f = IsOfTable h.frame_table (top h.zones) f ⊎ IsOfTable h.slot_table h.slots f
 
--- whether page frame p is one of a table that begins at `first` and has so many entries, and whether it is one of the
--- two
+-- whether page frame p belongs to the table of the given number of entries that begins at `first`; whether to one of
+-- the two tables
 abbrev pub is_of_table : ℕ → ℕ → ℕ → Bool
 is_of_table first entries p = nat_le first p && nat_lt p (first + table_len entries)
 
@@ -155,9 +155,8 @@ pub record IsRegion (h : Hardware) (r : ℕ × ℕ × ℕ) : Type 0 where
   pub valid : (p : ℕ) → IsInRegion r p → Contains (numbers h.zones) p
   pub of_no_table : (p : ℕ) → IsInRegion r p → IsTableFrame h p → ⊥
 
--- What a machine is, and nothing else: the page frames of the tables are valid and no page frame is of both, the
--- regions are at most 64 and apart, the extents of the swap area cover just its slots, and identity and signature fit
--- their fields.
+-- Valid hardware: the page frames of the tables are valid and no page frame is in both, the regions are at most 64 and
+-- apart, the extents of the swap area cover exactly its slots, and identity and signature fit their fields.
 pub record IsHardware (h : Hardware) : Type 0 where
   pub zones : AreZones h.zones
   pub some_slots : 2 ≤ h.slots

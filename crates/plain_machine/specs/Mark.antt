@@ -11,8 +11,8 @@ abbrev pub mark_flags : Format → ℕ
 mark_flags Plain = 2
 mark_flags SkipZeros = 258
 
--- A header block that says of an image of this format that its first map lies there: its flags are just those and,
--- where the machine has a signature, SF_HW_SIG, beside which the signature stands.
+-- A header block that marks an image of this format, whose first map is block `first`. It has no other flags than the
+-- format's and, if the machine has a signature, SF_HW_SIG; the signature is then in its field.
 pub record HasMark (h : Hardware) (format : Format) (first : ℕ) (header : List ℕ) : Type 0 where
   pub first_map : image_of header ≡ first
   pub flags : flags_of header ≡ marked_flags (mark_flags format) h.hw_sig

@@ -84,7 +84,7 @@ pub record RunsAs (h : Hardware) (flag : HeldFlag) (why : Option NoSwap) (operat
 abbrev pub ShowsRunning : Hardware → WorldView → Running → Type 0
 ShowsRunning h shown a = RunsAs h shown.held shown.unusable shown.flights shown.frames a
 
--- A world that is off shows whether it keeps a dump's memory, and just its page frames: a loader's free ones count too.
+-- A world that is off shows whether it keeps a dump's memory, and exactly that memory: a loader's free page frames too.
 abbrev pub ShowsKept : Hardware → WorldView → Option Memory → Type 0
 ShowsKept h shown None = shown.keeps_dump ≡ false
 ShowsKept h shown (Some m) = (shown.keeps_dump ≡ true) × (shown.frames ≡ m) × Fits h m

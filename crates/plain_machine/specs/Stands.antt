@@ -49,8 +49,8 @@ IsTaskSlot h m s = (s < h.slots) × (1 ≤ slot_entry h m s) × (slot_entry h m 
 abbrev pub IsTarget : (ℕ → Option Flight) → ℕ → Type 0
 IsTarget flights s = (t : ℕ) × (p : ℕ) × (flights t ≡ Some (goes_out s p))
 
--- The slots that have a page are just the tasks' by the table, but for the targets of unfinished outs. Where the area
--- can't be used, for this reason, every slot counts as bad, and none has a page.
+-- The slots that have a page are exactly those that the table gives to tasks, except the targets of unfinished outs. In
+-- an area that can't be used, for this reason, every slot counts as bad, and none has a page.
 pub record AreTaskSlots (h : Hardware) (why : Option NoSwap) (m : Memory) (flights : ℕ →
     Option Flight) (slots : SlotPages) : Type 0 where
   pub usable : (s : ℕ) (page : List ℕ) → slots s ≡ Some page → why ≡ None
@@ -58,8 +58,8 @@ pub record AreTaskSlots (h : Hardware) (why : Option NoSwap) (m : Memory) (fligh
   pub landed : (s : ℕ) (page : List ℕ) → slots s ≡ Some page → IsTarget flights s → ⊥
   pub paged : why ≡ None → (s : ℕ) → IsTaskSlot h m s → (IsTarget flights s → ⊥) → IsSome (slots s)
 
--- Of a task's unfinished operation the slot and the page frame are its own, so no two have one slot. Only in an area
--- that can be used has a task a slot.
+-- A task's unfinished operation owns its slot and its page frame, so no two operations share a slot. A task has a slot
+-- only in an area that can be used.
 pub record IsFlight (h : Hardware) (a : Running) (t s p : ℕ) : Type 0 where
   pub task : IsTask t
   pub usable : a.unusable ≡ None
@@ -102,7 +102,7 @@ abbrev pub HaveSlotPages : Hardware → disk.Content → SlotPages → Type 0
 HaveSlotPages h c slots =
     (s : ℕ) (page : List ℕ) → slots s ≡ Some page → disk.block (disk.as_it_reads c) (block_of_slot h s) ≡ page
 
--- the slots that the table names as the image's lie on these blocks
+-- the slots that the table gives to the image lie on these blocks
 abbrev pub NamesOnly : Hardware → WorldView → List ℕ → Type 0
 NamesOnly h shown blocks =
     (s : ℕ) → s < h.slots → raw_slot_entry h shown.frames s ≡ image_slot → Contains blocks (block_of_slot h s)
@@ -174,8 +174,8 @@ pub record HasLaid (h : Hardware) (c : disk.Content) (i : Image) (a : Running) :
       EachImage c (λ v. disk.block v (block_of_slot h s) ≡ page)
   pub mark : EachImage c (λ v. Marked h v → HasMark h i.format (first_map_block h a) (header_of h v))
 
--- What the first k steps wrote reads as laid, and the copies are the image's pages. After the first sync every image of
--- the disk has it.
+-- The blocks of the first k writes read as laid, and the copies are the image's pages. After the first sync this holds
+-- of every image of the disk.
 pub record IsWritten (h : Hardware) (shown : WorldView) (c : disk.Content) (i : Image) (a : Running)
     (k : ℕ) : Type 0 where
   pub laid : All (Reads (disk.as_it_reads c)) (take k (laid_writes h a i))
@@ -198,7 +198,7 @@ pages_read k = k - 4 - (k - 4 + 511) / 512
 abbrev pub data_read : Image → ℕ → ℕ
 data_read i k = pages_read k - (meta_of (n_of i) + 1)
 
--- another's image on the disk v has so many of them
+-- the number of data pages of another machine's image on the disk v
 abbrev pub data_read_in : Hardware → disk.DiskImage → ℕ → ℕ
 data_read_in h v k = pages_read k - (meta_in h v + 1)
 

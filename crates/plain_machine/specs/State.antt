@@ -13,7 +13,7 @@ use Rattle.plain_machine.specs.declared.event.Loader.{Loader}
 use Rattle.plain_machine.specs.declared.event.IdentCheck.{IdentCheck}
 use Rattle.plain_machine.specs.declared.reply.UndoCall.{UndoCall}
 
--- An operation of a task that isn't finished: page frame p goes out to slot s, or slot s is read into it.
+-- A task's unfinished operation: page frame p goes out to slot s, or slot s is read into page frame p.
 pub data Flight : Type 0 where
   goes_out : ℕ → ℕ → Flight
   comes_in : ℕ → ℕ → Flight

@@ -1,6 +1,6 @@
--- [step]: what the machine may answer, and the state after it. A pair that isn't among the outcomes can't come. In
--- Linux: hibernation_snapshot, create_image and software_resume, kernel/power/hibernate.c; swsusp_write,
--- mark_swapfiles, swsusp_check and swsusp_unmark, kernel/power/swap.c.
+-- [step]: what the machine may answer, and the state after it. Only the outcomes listed are possible. In Linux:
+-- hibernation_snapshot, create_image and software_resume, kernel/power/hibernate.c; swsusp_write, mark_swapfiles,
+-- swsusp_check and swsusp_unmark, kernel/power/swap.c.
 use Rattle.std.specs.Prelude.{◌≡◌, ℕ, ◌+◌, ◌-◌, ◌*◌, ◌==◌, ◌&&◌, ◌||◌, Bool, true, false, not, nat_lt, nat_le, List, []}
 use Rattle.std.specs.Prelude.{◌∷◌, ◌++◌, length, filter, take, Option, Some, None, if◌then◌else◌, is_none, is_some}
 use Rattle.std.specs.Prelude.{unwrap_or, slice_get, slice_set, Contains}
@@ -47,11 +47,11 @@ use Rattle.plain_machine.specs.declared.reply.UndoCall.TheVariants as undo
 abbrev pub Outcome : Type 0
 Outcome = Reply × State
 
--- one outcome alone
+-- the only outcome
 abbrev pub only : Reply → State → List Outcome
 only r b = (r, b) ∷ []
 
--- what a device call answers: it was done, or it failed
+-- the outcomes of a device call: it succeeds, or it fails
 abbrev pub done_or : Reply → State → Reply → State → List Outcome
 done_or r b fault c = (r, b) ∷ (fault, c) ∷ []
 
@@ -307,7 +307,7 @@ abbrev pub load_step : Hardware → disk.DiskImage → Load → ℕ → List Out
 load_step h v load k =
     if nat_lt k 4 || has_place h load load.found k then load_fault load k ∷ load_answers h v load k else []
 
--- Shrinking: [drop]. The first page frames whose flags are CACHE alone, until so many saveable ones are left.
+-- Shrinking: [drop]. Page frames with the one flag CACHE, from the lowest, until `want` saveable ones are left.
 abbrev pub droppable : Hardware → Memory → List ℕ
 droppable h m = filter (λ p. (frame_flags p == 64) && not (is_table_frame h p)) (numbers h.zones) where
   frame_flags : ℕ → ℕ
@@ -398,8 +398,9 @@ outcomes h v a e = refused_or a (refusal h a e) (accepted h v a e)
 abbrev pub Step : Hardware → disk.DiskImage → State → Event → Reply → State → Type 0
 Step h v a e r b = Contains (outcomes h v a e) (r, b)
 
--- The machine may give these replies to these events, one after another. Over a formatted area, where no image is
--- another's, no step looks at the disk but for the area's own block: v is a disk that reads as the formatted area.
+-- The machine may give these replies to these events, one after another. Over a formatted area no image is another
+-- machine's, so no step depends on the disk except for the area's own block: v is a disk that reads as the formatted
+-- area.
 abbrev pub Run : Hardware → disk.DiskImage → State → List Event → List Reply → State → Type 0
 Run h v a [] [] b = b ≡ a
 Run h v a [] (r ∷ replies) b = ⊥

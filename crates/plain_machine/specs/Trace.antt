@@ -174,7 +174,7 @@ pub data Place : Type 0 where
 abbrev pub place : ℕ → Place
 place t = if t % 512 == 0 then map_at (t / 512) else page_at (t - t / 512 - 1)
 
--- how many places so many pages have; the info page is read before its counts are known
+-- the number of places of a stream of p pages; the info page is read before its counts are known
 abbrev pub place_count : ℕ → ℕ
 place_count pages = maps_read (max pages 1) + max pages 1
 
@@ -201,8 +201,8 @@ want_cause h dump v loader (page_at k) = if k == meta_in h v then room_cause h d
 abbrev pub next_cause : Hardware → disk.DiskImage → ℕ → Option Reply
 next_cause h v t = if nat_lt (t + 1) (place_count (info_in h v).pages) then place_cause h v (place (t + 1)) else None
 
--- What is wrong at the end of the step that reads place t: with what was read there, else with the loader's room, of
--- which a reader alone knows of nothing that is wrong, else with the block that is wanted next.
+-- The fault at the end of the step that reads place t: that of the page just read; else the loader's lack of room,
+-- which a mere reader of blocks doesn't know; else that of the block that is wanted next.
 abbrev pub cause_with : Hardware → disk.DiskImage → IdentCheck → Option Reply → ℕ → Option Reply
 cause_with h v check room t = or_else (read_cause h v check (place t)) (or_else room (next_cause h v t))
 

@@ -52,7 +52,7 @@ fit_fault h blocks area =
 abbrev pub bad_slots_of : Area → List ℕ
 bad_slots_of area = 0 ∷ take area.count area.bad
 
--- whether just the area's bad slots are bad in a slot table
+-- whether the bad slots of a slot table are exactly the area's
 abbrev pub has_bad_slots_of : Hardware → Memory → Area → Bool
 has_bad_slots_of h m area =
     list_all (λ s. if raw_slot_entry h m s == bad_slot then has (bad_slots_of area) s
@@ -91,17 +91,17 @@ bad_slots_in Old = []
 bad_slots_in (Other sig) = []
 bad_slots_in (BadArea why) = []
 
--- The premises of the headline, over what a disk tells.
+-- The premises of the headline, over a disk that tells its content.
 
--- [honest disk] The disk tells its content and starts with one image: a promise takes it as a disk that is settled on
--- it. That it keeps the rules of disks is the contract of its calls.
+-- [honest disk] The disk tells its content and starts with one image: a promise assumes that the disk is settled on
+-- that image. That the disk keeps the rules is the contract of its calls.
 
--- [sole writer] Nobody else writes the disk: what it tells after one call it tells before the next. It stands in the
--- program's type, which holds the disk by an exclusive reference.
+-- [sole writer] Nobody else writes the disk: its content before a call is its content after the last one. The program's
+-- type ensures this, which holds the disk by an exclusive reference.
 
 -- [one hardware] One hardware, with its signature, serves the whole script: `Step` and `Run` take it once.
 
--- [telling ends] The source, out and note tell their bytes: each promise on them is for ends that do.
+-- [telling ends] The source, out and note tell their bytes: each promise on bytes is for ends that do.
 
 -- [memory] The status isn't 6: `Memory` of the program's `Status`.
 

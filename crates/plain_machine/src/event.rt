@@ -13,7 +13,7 @@ pub enum Event {
     Wake,
     /// It is to be made certain that no image is on the disk.
     Settle,
-    /// Cached page frames are to be dropped until so many saveable ones are left.
+    /// Drop cached page frames until the given number of saveable ones are left.
     Shrink(u64),
     /// The machine is switched on, and the image on the disk resumed.
     Resume(Loader, IdentCheck),
@@ -32,17 +32,17 @@ pub enum Event {
 pub enum TaskOp {
     /// A free page frame, zeroed.
     Claim(u32),
-    /// That a page frame of its own is free again.
+    /// One of the task's page frames becomes free.
     Release(u32),
-    /// That word K of page frame P is V: Store(P, K, V).
+    /// Word K of page frame P becomes V: Store(P, K, V).
     Store(u32, u32, u64),
     /// Word K of page frame P: Show(P, K).
     Show(u32, u32),
-    /// That a page frame of its own may be dropped.
+    /// One of the task's page frames may be dropped from now on.
     Cache(u32),
-    /// That the page of a page frame is written to a slot of the swap area.
+    /// The page of a page frame is written to a slot of the swap area.
     Out(u32),
-    /// That the page in a slot of its own is read into a page frame: TakeIn(SLOT, P).
+    /// The page in one of the task's slots is read into a page frame: TakeIn(SLOT, P).
     TakeIn(u32, u32),
 }
 

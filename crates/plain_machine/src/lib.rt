@@ -1,4 +1,4 @@
-//! The plain machine: what a simulated machine may do and answer, with no word of how.
+//! The plain machine: what a simulated machine may do and answer, without saying how.
 #![tactic(auto)]
 
 mod event;

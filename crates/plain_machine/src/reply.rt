@@ -6,7 +6,7 @@ use definitions::Field;
 pub enum Reply {
     /// A claim, release, store, cache or arm was done.
     Done,
-    /// An operation has made k of so many steps.
+    /// An operation has made k of its steps.
     More { k: u32, of: u32 },
     /// The machine runs. Whether an image is on the disk.
     Booted { image: bool },
@@ -65,7 +65,7 @@ pub enum Reply {
     Asleep { n: u32 },
     NotAsleep,
     Woken,
-    /// So many cached page frames were dropped, and so many saveable ones are left.
+    /// Page frames that were dropped from the cache, and saveable ones that are left.
     Shrunk { dropped: u32, left: u32 },
 }
 

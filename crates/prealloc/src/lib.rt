@@ -1,4 +1,4 @@
-//! Whether memory suffices for an image, and the page frames that its copies go to (kernel/power/snapshot.c,
+//! Decides whether memory suffices for an image, and picks the page frames for its copies (kernel/power/snapshot.c,
 //! enough_free_mem and swsusp_alloc).
 #![tactic(auto)]
 
@@ -16,7 +16,7 @@ use page_states::{PageFlags, entry};
 use saveable::View;
 use thiserror::Error;
 
-/// Free page frames that are left for the writing of the image (PAGES_FOR_IO).
+/// The free page frames that are left for writing the image (PAGES_FOR_IO).
 const PAGES_FOR_IO: u32 = 1024;
 
 /// Too few page frames are free.
@@ -27,7 +27,7 @@ pub struct Short {
     pub need: u32,
 }
 
-/// Whether so many free page frames suffice for an image of `n` pages.
+/// Checks that `free` free page frames suffice for an image of `n` pages.
 pub fn enough(free: u32, n: u32) -> Result<(), Short>
     requires { n ≤ 65536 }
     ensures enough { IsOk result ↔ (n + 1025 ≤ free) }
@@ -41,7 +41,7 @@ pub fn enough(free: u32, n: u32) -> Result<(), Short>
     Ok(())
 }
 
-/// Makes the set that of the `n` lowest free page frames (of all of them where fewer are free).
+/// Makes `set` the `n` lowest free page frames, or all of them if fewer are free.
 pub fn pick(view: &View, n: u32, set: &mut Bitmap)
     requires table { HasTable view.now.frames.now view.now.table (top view.now.zones.now) }
     requires zones { set.old.zones ≡ view.now.zones.now }
@@ -57,7 +57,7 @@ pub fn pick(view: &View, n: u32, set: &mut Bitmap)
     }
 }
 
-/// Adds the lowest free page frames of a zone that lies above the members so far, at most so many. Answers how many are
+/// Adds the lowest free page frames, at most `most`, of a zone that lies above the members so far. Returns how many are
 /// still to be added.
 fn pick_in_zone(view: &View, zone: (u32, u32), most: u32, set: &mut Bitmap) -> u32
     requires zone { IsZone zone }

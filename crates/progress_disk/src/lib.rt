@@ -1,4 +1,4 @@
-//! A disk that tells somebody who waits how much of it was read and written.
+//! A disk that shows a waiting user how much of it was read and written.
 #![tactic(auto)]
 
 mod meter;

@@ -1,13 +1,13 @@
 use std::io::IsTerminal;
 use std::time::Instant;
 
-/// After how many blocks the clock is looked at: 16 MiB.
+/// The number of blocks after which the clock is read: 16 MiB.
 const BLOCKS: u64 = 4096;
 
-/// How many milliseconds pass before the first line, and between two lines.
+/// The milliseconds before the first line, and between two lines.
 const PAUSE: u128 = 2000;
 
-/// Counts blocks, and writes a line to standard error every two seconds, the first after two, where that is a terminal.
+/// A counter of blocks. If standard error is a terminal, it writes a line there every two seconds.
 #[derive(Drop)]
 pub struct Meter<'a> {
     rt: &'a HostRuntime,
@@ -18,7 +18,7 @@ pub struct Meter<'a> {
 }
 
 impl<'a> Meter<'a> {
-    /// A meter of a program with this name. A quiet one writes nothing.
+    /// Makes a meter of a program with this name. A quiet one writes nothing.
     pub fn new(rt: &'a HostRuntime, program: &'a str, quiet: bool) -> Meter<'a> {
         let begun = if quiet || !rt.stderr().is_terminal() {
             None
@@ -34,7 +34,7 @@ impl<'a> Meter<'a> {
         }
     }
 
-    /// One block more was read or written.
+    /// Counts a block that was read or written.
     pub fn count(&mut self) {
         self.blocks = self.blocks.saturating_add(1);
         if self.blocks % BLOCKS == 0 {

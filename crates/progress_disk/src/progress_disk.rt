@@ -2,7 +2,7 @@ use crate::meter::Meter;
 use page_core::{Failed, Page};
 use sector_disk::Disk;
 
-/// A disk whose reads and writes are counted by a meter. In all else it is the disk below.
+/// A disk whose reads and writes are counted by a meter. Otherwise it is the disk below.
 #[derive(Drop)]
 pub struct ProgressDisk<'a, D> {
     pub disk: D,

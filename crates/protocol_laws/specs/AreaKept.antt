@@ -19,7 +19,7 @@ KeptByOtherWrite =
 abbrev pub KeptBySync : Type 0
 KeptBySync = (h : Hardware) (c c' : Content) → Syncs c c' → IsSameArea h (as_it_reads c) (as_it_reads c')
 
--- a write of block(0), failed or not: of an unmarked page that says of the area what the block says,
+-- a write of block(0), failed or not: of an unmarked page that describes the same area as the block,
 abbrev pub KeptByHeader : Type 0
 KeptByHeader =
     (h : Hardware) (blocks : ℕ) (page : List ℕ) (c c' : Content) → IsContent blocks c → block_of_slot h 0 < blocks →

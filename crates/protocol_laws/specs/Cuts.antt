@@ -1,5 +1,5 @@
--- A power cut, at any state: the machine is off, and what was held is held (own; Linux finds after it what the disk
--- has).
+-- A power cut in any state: the machine is off and holds what it held (own; Linux finds what the disk has after the
+-- cut).
 use Rattle.std.specs.Prelude.{◌≡◌, ℕ}
 use Rattle.definitions.specs.Disk.{Content, IsContent, Restarts, as_it_reads}
 use Rattle.plain_machine.specs.Machine.{Hardware}
@@ -8,7 +8,7 @@ use Rattle.plain_machine.specs.Stands.{Stands}
 use Rattle.plain_machine.specs.State.{State, off, held_in, kept_in}
 use Rattle.protocol_laws.specs.Rows.{IsSameArea}
 
--- what the world shows of the state that it was cut in: nothing but a dump's memory, where that was kept
+-- the world shows nothing of the state that the cut ended, except a dump's memory if that was kept
 abbrev pub CutsOff : Type 0
 CutsOff =
     (h : Hardware) (shown shown' : WorldView) (c c' : Content) (a : State) → Stands h shown c a → Restarts c c' →

@@ -3,7 +3,7 @@ use Rattle.std.specs.Prelude.{Bool, true, false}
 use Rattle.sig_header.specs.declared.area.AreaKind.{AreaKind}
 use Rattle.sig_header.specs.declared.area.AreaKind.TheVariants.{Image, Old, Other, BadArea, Swap}
 
--- whether it is of an image
+-- whether the header block is that of an image
 abbrev pub is_image : AreaKind → Bool
 is_image (Image mark) = true
 is_image Old = false

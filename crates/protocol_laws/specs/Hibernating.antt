@@ -1,5 +1,5 @@
--- What a hibernation's calls of the disk make of the state that a world and its disk stand for: for each step of the
--- plain machine the state after it (save_image, swap_writer_finish and mark_swapfiles, kernel/power/swap.c).
+-- What a hibernation's disk calls do to the state that a world and its disk stand for: after each step of the plain
+-- machine they stand for its next state (save_image, swap_writer_finish and mark_swapfiles, kernel/power/swap.c).
 use Rattle.std.specs.Prelude.{◌≡◌, ◌≢◌, ◌<◌, ℕ, ◌+◌, Bool, false, [], None}
 use Rattle.page_core.specs.declared.format.Format.{Format}
 use Rattle.definitions.specs.Disk.{Content, IsContent, Writes, FailsToWrite, Syncs, as_it_reads}
@@ -24,7 +24,7 @@ IsAcceptedUnlessRefused =
     (h : Hardware) (a : Running) (f : Format) → IsHardware h → refusal h (on a) (Hibernate f) ≡ None →
     IsAccepted h a (image_of_memory h a.memory a.slots f)
 
--- and begins, where the world has made its copies.
+-- and begins, once the world has made its copies.
 abbrev pub Begins : Type 0
 Begins =
     (h : Hardware) (shown shown' : WorldView) (c : Content) (a : Running) (f : Format) (suspends : Bool) →
@@ -32,7 +32,7 @@ Begins =
     shown'.activity ≡ hibernates suspends 0 → ShowsCopies h shown' a (image_of_memory h a.memory a.slots f) →
     Stands h shown' c (hibernating suspends (image_of_memory h a.memory a.slots f) a 0)
 
--- A write of a page or map is a step. Where it fails the machine runs again.
+-- The write of a page or map is a step. If it fails, the machine runs again.
 abbrev pub WritesOn : Type 0
 WritesOn =
     (h : Hardware) (shown shown' : WorldView) (c c' : Content) (blocks : ℕ) (suspends : Bool) (i : Image) (a : Running)
@@ -47,14 +47,14 @@ WriteFails =
     FailsToWrite (write_of_step h a i k).0 (write_of_step h a i k).1 c c' → shown'.activity ≡ runs →
     ShowsRunning h shown' a → NamesOnly h shown' [] → Stands h shown' c' (on a)
 
--- It is of no block of the header's.
+-- No page or map is written to the header block.
 abbrev pub WritesElsewhere : Type 0
 WritesElsewhere =
     (h : Hardware) (shown : WorldView) (c : Content) (blocks : ℕ) (suspends : Bool) (i : Image) (a : Running) (k : ℕ) →
     IsOverDisk h i blocks c → Stands h shown c (hibernating suspends i a k) → k + 4 < hibernate_steps i →
     (write_of_step h a i k).0 ≢ block_of_slot h 0
 
--- The sync after the writes is a step, and the read of block(0) after it. Where one fails the machine runs again.
+-- The sync after the writes is a step, and so is the read of block(0) after it. If one fails, the machine runs again.
 abbrev pub SyncsOn : Type 0
 SyncsOn =
     (h : Hardware) (shown shown' : WorldView) (c c' : Content) (blocks : ℕ) (suspends : Bool) (i : Image) (a : Running)
@@ -69,7 +69,7 @@ ReadsOn =
     shown'.header ≡ header_of h (as_it_reads c) → shown'.activity ≡ hibernates suspends (k + 1) →
     ShowsCopies h shown' a i → Stands h shown' c (hibernating suspends i a (k + 1))
 
--- What is read is the header block of a version 1 area that isn't marked.
+-- The block read is the header block of an unmarked version 1 area.
 abbrev pub ReadsArea : Type 0
 ReadsArea =
     (h : Hardware) (shown : WorldView) (c : Content) (blocks : ℕ) (suspends : Bool) (i : Image) (a : Running) (k : ℕ) →
@@ -89,8 +89,8 @@ MarksUnmarked =
     IsContent blocks c → Stands h shown c (hibernating suspends i a k) → k + 2 ≡ hibernate_steps i →
     (shown.header ≡ header_of h (as_it_reads c)) × (Marked h (as_it_reads c) → ⊥)
 
--- The write of the mark is a step: from then on each image of the disk is unmarked or holds the image, and what the
--- disk reads holds it. Where the write fails an undo begins.
+-- The write of the mark is a step. From then on each image of the disk is unmarked or holds the image, and the disk as
+-- it reads holds it. If the write fails, an undo begins.
 abbrev pub MarksOn : Type 0
 MarksOn =
     (h : Hardware) (shown shown' : WorldView) (c c' : Content) (blocks : ℕ) (suspends : Bool) (i : Image) (a : Running)
@@ -109,15 +109,15 @@ MarkFails =
     shown'.header ≡ marked_header h a i shown.header → shown'.activity ≡ undoes undo.Write 0 →
     ShowsCopies h shown' a i → Stands h shown' c' (undoing i undo.Write a 0)
 
--- The last sync ends it: the machine is off, and every image of the disk holds the image. Where it fails an undo
--- begins.
+-- The last sync ends the hibernation: the machine is off, and every image of the disk holds the image. If the sync
+-- fails, an undo begins.
 abbrev pub Ends : Type 0
 Ends =
     (h : Hardware) (shown shown' : WorldView) (c c' : Content) (blocks : ℕ) (suspends : Bool) (i : Image) (a : Running)
     (k : ℕ) → IsOverDisk h i blocks c → Stands h shown c (hibernating suspends i a k) → k + 1 ≡ hibernate_steps i →
     Syncs c c' → shown'.activity ≡ rests → shown'.keeps_dump ≡ false → Stands h shown' c' (off (sure (own i)) None)
 
--- Where it is a suspend's the machine sleeps, as it ran before, and the slots of the image stay named.
+-- After the last sync of a suspend the machine sleeps, in the state that it ran in, and the image's slots stay named.
 abbrev pub EndsAsleep : Type 0
 EndsAsleep =
     (h : Hardware) (shown shown' : WorldView) (c c' : Content) (blocks : ℕ) (suspends : Bool) (i : Image) (a : Running)
@@ -125,7 +125,7 @@ EndsAsleep =
     Syncs c c' → shown'.activity ≡ sleeps → ShowsRunning h shown' a → NamesHeld h shown' (sure (own i)) →
     Stands h shown' c' (asleep i (sure (own i)) a)
 
--- It has left the mark and the blocks in every image.
+-- The last sync has left the mark and the image's blocks in every image of the disk.
 abbrev pub EndLeaves : Type 0
 EndLeaves =
     (h : Hardware) (shown : WorldView) (c c' : Content) (blocks : ℕ) (suspends : Bool) (i : Image) (a : Running)

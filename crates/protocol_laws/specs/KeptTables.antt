@@ -11,7 +11,7 @@ FitsCarried =
     (h : Hardware) (m n : Memory) → IsHardware h → Fits h m → IsSameMemory h m n → All IsPage n →
     length n ≡ top h.zones → Fits h n
 
--- the same slot entries have the same runs of free slots
+-- memories with the same slot entries have the same runs of free slots
 abbrev pub RunsSame : Type 0
 RunsSame =
     (h : Hardware) (m n : Memory) → ((k : ℕ) → k < h.slots → raw_slot_entry h n k ≡ raw_slot_entry h m k) →

@@ -1,5 +1,5 @@
--- Whole rows of a resume: what each call of the disk and its answer lead to, for an image that the machine made and for
--- another's in one form (swsusp_check and swsusp_read, kernel/power/swap.c; swsusp_unmark).
+-- Whole rows of a resume: what each disk call and its answer lead to, in one form for an image that the machine made
+-- and for another's (swsusp_check and swsusp_read, kernel/power/swap.c; swsusp_unmark).
 use Rattle.std.specs.Prelude.{◌≡◌, ◌≤◌, ◌<◌, ℕ, ◌+◌, false, [], Some, None, Contains, ⊤}
 use Rattle.definitions.specs.Disk as disk
 use Rattle.definitions.specs.Disk.{Content, IsContent, Writes, FailsToWrite, Syncs, as_it_reads}
@@ -28,8 +28,8 @@ use Rattle.protocol_laws.specs.Loads.{ShowsLoad}
 use Rattle.protocol_laws.specs.Rows.{StepsTo}
 use Rattle.protocol_laws.specs.TraceAt.{reply_at}
 
--- The disk v, on which the second step found an image: one that the machine made and that v holds, or another's, which
--- v is.
+-- The disk v on which the second step found an image: v holds an image that the machine made, or v is the disk with
+-- another's.
 abbrev pub IsFoundOn : Hardware → disk.DiskImage → Found → Type 0
 IsFoundOn h v not_yet = ⊥
 IsFoundOn h v (found_own i) = Holds h v i × IsOwn h v i
@@ -38,13 +38,13 @@ IsFoundOn h v (found_other w) = v ≡ w
 abbrev pub IsFoundIn : Hardware → Load → disk.DiskImage → Type 0
 IsFoundIn h load v = IsFoundOn h v load.found
 
--- the resume that has found it
+-- the resume with what it has found
 abbrev pub with_finding : Load → Found → Load
 with_finding load found =
     record { held = load.held; found = found; loader = load.loader; dump = load.dump; check = load.check }
 
 -- A step of the core with this reply: what is shown afterwards and the disk stand for the state that the plain machine
--- goes on to. The area on the disk stays.
+-- goes on to. The area on the disk stays the same.
 abbrev pub Goes : Hardware → WorldView → Reply → Content → Content → State → State → Type 0
 Goes h shown' r c c' a b = StepsTo h (Stands h shown') (event.Step actor.Core) r c c' a b
 
@@ -52,12 +52,12 @@ Goes h shown' r c c' a b = StepsTo h (Stands h shown') (event.Step actor.Core) r
 abbrev pub ShowsRest : WorldView → Type 0
 ShowsRest shown' = (shown'.activity ≡ rests) × (shown'.keeps_dump ≡ false)
 
--- each step from the second on, before step k + 1, has answered Loading over the disk v
+-- each step from the second to step k has replied Loading over the disk v
 abbrev pub HaveGoneOn : Hardware → Load → disk.DiskImage → ℕ → Type 0
 HaveGoneOn h load v k =
     (j : ℕ) → 1 ≤ j → j < k → reply_at h load.dump v load.loader load.check j ≡ reply.Loading (j + 1)
 
--- the machine that runs after it, but for its tasks' slots, at which what is shown doesn't look
+-- the machine that runs after the resume; its tasks' slots are a parameter, as what is shown doesn't depend on them
 abbrev pub running_with : Hardware → Load → disk.DiskImage → SlotPages → Running
 running_with h load v slots = record {
   memory = restored_in h load.dump v load.loader;
@@ -67,7 +67,7 @@ running_with h load v slots = record {
   held = nothing;
 }
 
--- A reply at which a resume ends early.
+-- A reply that ends a resume early.
 abbrev pub IsStop : Reply → Type 0
 IsStop (reply.Loading k) = ⊥
 IsStop (reply.Resumed n) = ⊥
@@ -86,8 +86,8 @@ LoadSyncFaultRow =
     ShowsRest shown' →
     Goes h shown' (reply.SyncFault Same) c c (loading load 0) (off load.held None)
 
--- The read of block(0): without a mark nothing is held; another's image that is compressed stays; else the image is
--- found.
+-- The read of block(0). Without a mark nothing is held. A compressed image, which is another's, stays. Otherwise the
+-- image is found.
 abbrev pub FindNoneRow : Type 0
 FindNoneRow =
     (h : Hardware) (shown shown' : WorldView) (c : Content) (blocks : ℕ) (load : Load) → IsContent blocks c →
@@ -108,7 +108,7 @@ FindFaultRow =
     ShowsRest shown' →
     Goes h shown' (reply.ReadFault Same) c c (loading load 1) (off load.held None)
 
--- Block(0) is written taken back. Where the write fails the image is there or not.
+-- The write of block(0) with the mark taken back. If it fails, the image may or may not exist.
 abbrev pub TakeBackRow : Type 0
 TakeBackRow =
     (h : Hardware) (shown shown' : WorldView) (c c' : Content) (blocks : ℕ) (load : Load) (v : disk.DiskImage) →
@@ -124,8 +124,8 @@ TakeBackFaultRow =
     IsFoundIn h load v → FailsToWrite (block_of_slot h 0) (taken_back shown.header) c c' → ShowsRest shown' →
     Goes h shown' (reply.WriteFault Unsure) c c' (loading load 2) (off (perhaps (held_while_loading load 2)) None)
 
--- The sync after it: from then on no image is there. Another's image may have been made on other hardware, or have no
--- chain.
+-- The sync of the cleared mark: from then on no image exists. Another's image may have been made on other hardware, or
+-- have no chain.
 abbrev pub BackSyncRow : Type 0
 BackSyncRow =
     (h : Hardware) (shown shown' : WorldView) (c c' : Content) (blocks : ℕ) (load : Load) (v : disk.DiskImage) →
@@ -146,7 +146,7 @@ BackSyncFaultRow =
     ShowsRest shown' →
     Goes h shown' (reply.SyncFault Unsure) c c (loading load 3) (off (perhaps (held_while_loading load 2)) None)
 
--- A read after it, at which the image was found on the disk v and each step before has answered Loading.
+-- A read of the chain: the image was found on the disk v, and each step from the second on has replied Loading.
 pub record IsBeforeRead (h : Hardware) (shown : WorldView) (c : Content) (load : Load) (v : disk.DiskImage)
     (k : ℕ) : Type 0 where
   pub hardware : IsHardware h
@@ -180,7 +180,7 @@ ReadResumedRow =
     ShowsRunning h shown' (running_with h load v no_slots) → NamesOnly h shown' [] →
     (slots : SlotPages) × Goes h shown' (reply.Resumed n) c c (loading load k) (on (running_with h load v slots))
 
--- After a dump's loader it is off.
+-- After a dump's loader the machine is off.
 abbrev pub ReadResumedOffRow : Type 0
 ReadResumedOffRow =
     (h : Hardware) (shown shown' : WorldView) (c : Content) (load : Load) (v : disk.DiskImage) (k n : ℕ) →
@@ -196,7 +196,7 @@ ReadFaultRow =
 
 -- What the rows ask for.
 
--- up to the info page no page with data is read
+-- up to the info page no data page is read
 abbrev pub ShowsNoneRead : Type 0
 ShowsNoneRead =
     (h : Hardware) (shown : WorldView) (load : Load) (k : ℕ) → k ≤ 6 → shown.activity ≡ loads k →
@@ -204,7 +204,7 @@ ShowsNoneRead =
     ((p : ℕ) → p < top h.zones → (Contains (left_free h load.dump load.loader) p → ⊥) →
     frame shown.frames p ≡ loader_frame load.dump load.loader p) → shown.loaded ≡ [] → ShowsLoad h shown load k
 
--- up to the fourth step the header's tests alone have to be passed
+-- up to the fourth step only the header's tests have to be passed
 abbrev pub GoneOnEarly : Type 0
 GoneOnEarly =
     (h : Hardware) (load : Load) (v : disk.DiskImage) (k : ℕ) → k ≤ 3 → header_cause h v ≡ None → HaveGoneOn h load v k
@@ -214,7 +214,7 @@ GoneOnNext =
     (h : Hardware) (load : Load) (v : disk.DiskImage) (k : ℕ) → HaveGoneOn h load v k →
     reply_at h load.dump v load.loader load.check k ≡ reply.Loading (k + 1) → HaveGoneOn h load v (k + 1)
 
--- what is wrong with a place, or with the restored tables, ends the resume
+-- a fault of a place, or of the restored tables, ends the resume
 abbrev pub CauseStops : Type 0
 CauseStops =
     (h : Hardware) (load : Load) (v : disk.DiskImage) (t : ℕ) (r : Reply) →

@@ -1,6 +1,6 @@
--- What a hibernation makes of memory: slots that it takes are seen as free, and given back they are so. The sets that
--- it has from the page frames are those of the memory that they show (swsusp_save and alloc_swapdev_block,
--- kernel/power/snapshot.c and swap.c).
+-- What a hibernation does to memory: the slots that it takes are seen as free, and are free once given back. The sets
+-- that it makes from the page frames are those of the memory that the page frames show (swsusp_save and
+-- alloc_swapdev_block, kernel/power/snapshot.c and swap.c).
 use Rattle.std.specs.Prelude.{◌≡◌, ◌≢◌, ◌<◌, ℕ, List, Contains, Option}
 use Rattle.definitions.specs.Tables.{free_slots}
 use Rattle.definitions.specs.Tables.{frame}
@@ -15,8 +15,8 @@ use Rattle.image_laws.specs.Decoding.{IsSayable}
 use Rattle.image_write.specs.Writing.{stream_of_sets, AreOfImage}
 use Rattle.protocol_laws.specs.Slots.{IsMemoryOf, AreFree, taken, HasSets}
 
--- Free slots that the image takes: what is seen of memory stays, page frames outside the slot table stay as they are,
--- and a slot of the image is one of before or one that was taken.
+-- When the image takes free slots, what is seen of memory stays the same, and so do page frames outside the slot table.
+-- A slot that is the image's was so before, or is one of those taken.
 abbrev pub SeenTaken : Type 0
 SeenTaken =
     (h : Hardware) (m : Memory) (slots : List ℕ) → IsMemoryOf h m → AreFree h m slots →
@@ -34,12 +34,12 @@ NamesTaken =
     ((k : ℕ) → Contains slots k → Contains blocks (block_of_slot h k)) →
     (k : ℕ) → k < h.slots → raw_slot_entry h (taken h m slots) k ≡ image_slot → Contains blocks (block_of_slot h k)
 
--- Given back, no slot is the image's.
+-- After the slots are given back, none is the image's.
 abbrev pub NoneLeft : Type 0
 NoneLeft = (h : Hardware) (m : Memory) (k : ℕ) → IsMemoryOf h m → k < h.slots →
     raw_slot_entry h (seen_frames h m) k ≢ image_slot
 
--- The running state that the page frames show is shown by them with the slots taken, and with all given back.
+-- Page frames that show a running state still show it with slots taken, and with all of them given back.
 abbrev pub RunsTaken : Type 0
 RunsTaken =
     (h : Hardware) (flag : Held) (why : Option NoSwap) (operations : ℕ →
@@ -52,7 +52,7 @@ RunsGivenBack =
     IsMemoryOf h m →
     RunsAs h flag why operations m a → RunsAs h flag why operations (seen_frames h m) a
 
--- Saveable and free page frames are those of the memory that is shown, and so are the free slots where none is the
+-- Saveable and free page frames are those of the memory that is shown. So are the free slots, if no slot is the
 -- image's.
 abbrev pub ShownLists : Type 0
 ShownLists =

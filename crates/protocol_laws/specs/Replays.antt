@@ -1,5 +1,5 @@
--- Replays: the states of a run in which no image is another's and no dump's memory comes in. Their steps look at
--- nothing on the disk but its area.
+-- Replays: the states of a run in which no image is another's and no dump's memory comes in. Their steps look only at
+-- the disk's area.
 use Rattle.std.specs.Prelude.{◌≡◌, None, ⊤}
 use Rattle.definitions.specs.Disk as disk
 use Rattle.plain_machine.specs.Machine.{Hardware}
@@ -11,7 +11,7 @@ use Rattle.plain_machine.specs.declared.event.Event.{Event}
 use Rattle.plain_machine.specs.declared.reply.Reply.{Reply}
 use Rattle.protocol_laws.specs.Rows.{IsSameArea}
 
--- no image is held that is another's, and none was found
+-- no image of another's is held, and none was found
 abbrev pub IsOwnHeld : Held → Type 0
 IsOwnHeld nothing = ⊤
 IsOwnHeld (sure (own i)) = ⊤
@@ -24,7 +24,7 @@ IsOwnFound not_yet = ⊤
 IsOwnFound (found_own i) = ⊤
 IsOwnFound (found_other v) = ⊥
 
--- A state of a replay: no image is another's, and there is no dump's memory.
+-- A state of a replay: no image is another's, and no dump's memory is kept.
 abbrev pub IsOfReplay : State → Type 0
 IsOfReplay (off held kept) = IsOwnHeld held × (kept ≡ None)
 IsOfReplay (on a) = IsOwnHeld a.held
@@ -36,7 +36,7 @@ IsOfReplay (waking i held a k) = IsOwnHeld held × IsOwnHeld a.held
 IsOfReplay (loading load k) = IsOwnHeld load.held × IsOwnFound load.found
 IsOfReplay (asleep i held a) = IsOwnHeld held × IsOwnHeld a.held
 
--- Over one area a step of a replay may be the same: only its area is looked at.
+-- A step of a replay can also be made over another disk with the same area: it looks at nothing else.
 abbrev pub SameSteps : Type 0
 SameSteps =
     (h : Hardware) (v w : disk.DiskImage) (a : State) (e : Event) (r : Reply) (b : State) → IsSameArea h v w →

@@ -1,5 +1,5 @@
--- What a resume's calls of the disk make of the state that a world and its disk stand for, where the image is one that
--- the machine made (swsusp_check and swsusp_read, kernel/power/swap.c; swsusp_unmark).
+-- What a resume's disk calls do to the state that a world and its disk stand for, when the machine made the image
+-- (swsusp_check and swsusp_read, kernel/power/swap.c; swsusp_unmark).
 use Rattle.std.specs.Prelude.{◌≡◌, ◌≤◌, ◌⊎◌, ℕ, ◌+◌, false, [], Option, None}
 use Rattle.definitions.specs.Disk.{Content, IsContent, Writes, FailsToWrite, Syncs, as_it_reads}
 use Rattle.definitions.specs.SwapHeader.{taken_back}
@@ -18,12 +18,12 @@ use Rattle.protocol_laws.specs.Loads.{ShowsLoad}
 abbrev pub IsHeldOwn : Held → Image → Type 0
 IsHeldOwn held i = (held ≡ sure (own i)) ⊎ (held ≡ maybe (own i))
 
--- the resume that has found it
+-- the resume, once it has found the image
 abbrev pub with_found : Load → Image → Load
 with_found load i =
     record { held = load.held; found = found_own i; loader = load.loader; dump = load.dump; check = load.check }
 
--- the machine that runs after it
+-- the machine that runs after the resume
 abbrev pub resumed_running : Hardware → Load → Image → Running
 resumed_running h load i = record {
   memory = restored h load.dump load.loader i;
@@ -45,14 +45,14 @@ LoadSyncs =
     (h : Hardware) (shown shown' : WorldView) (c c' : Content) (blocks : ℕ) (load : Load) → IsContent blocks c →
     Stands h shown c (loading load 0) → Syncs c c' → ShowsLoad h shown' load 1 → Stands h shown' c' (loading load 1)
 
--- While the disk holds what it held, a call that fails leaves the machine off with that.
+-- As long as what is held hasn't changed, a failed call leaves the machine off with that.
 abbrev pub LoadFails : Type 0
 LoadFails =
     (h : Hardware) (shown shown' : WorldView) (c : Content) (load : Load) (k : ℕ) →
     held_while_loading load k ≡ load.held → Stands h shown c (loading load k) → shown'.activity ≡ rests →
     shown'.keeps_dump ≡ false → Stands h shown' c (off load.held None)
 
--- The read of block(0): without a mark no image is held, with one the image that was held is there.
+-- The read of block(0): without a mark no image is held; with one, the image that was held exists.
 abbrev pub FindsNone : Type 0
 FindsNone =
     (h : Hardware) (shown shown' : WorldView) (c : Content) (blocks : ℕ) (load : Load) → IsContent blocks c →
@@ -66,7 +66,7 @@ FindsOwn =
     shown'.header ≡ header_of h (as_it_reads c) → ShowsLoad h shown' (with_found load i) 2 →
     Stands h shown' c (loading (with_found load i) 2)
 
--- Block(0) is written taken back. Where the write fails the image is there or not, and the machine is off.
+-- The write of block(0) with the mark taken back. If it fails, the image may or may not exist, and the machine is off.
 abbrev pub TakesBack : Type 0
 TakesBack =
     (h : Hardware) (shown shown' : WorldView) (c c' : Content) (blocks : ℕ) (load : Load) (i : Image) → IsHardware h →
@@ -81,7 +81,7 @@ TakeBackFails =
     FailsToWrite (block_of_slot h 0) (taken_back shown.header) c c' → shown'.activity ≡ rests →
     shown'.keeps_dump ≡ false → Stands h shown' c' (off (maybe (own i)) None)
 
--- The sync after it: no image is marked any more. So a machine resumes an image at most once.
+-- The sync of the cleared mark: no image is marked any more. So a machine resumes an image at most once.
 abbrev pub BackSyncs : Type 0
 BackSyncs =
     (h : Hardware) (shown shown' : WorldView) (c c' : Content) (blocks : ℕ) (load : Load) (i : Image) →

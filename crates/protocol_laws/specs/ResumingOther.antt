@@ -1,6 +1,5 @@
--- What a resume's calls of the disk make of the state that a world and its disk stand for, where the image is
--- another's: a mark that the disk had before the program began (swsusp_check and swsusp_read, kernel/power/swap.c;
--- swsusp_unmark).
+-- What a resume's disk calls do to the state that a world and its disk stand for, when the image is another's: a mark
+-- that the disk had before the program began (swsusp_check and swsusp_read, kernel/power/swap.c; swsusp_unmark).
 use Rattle.std.specs.Prelude.{◌≡◌, ◌≤◌, ◌⊎◌, ℕ, ◌+◌, false, [], None}
 use Rattle.definitions.specs.Disk as disk
 use Rattle.definitions.specs.Disk.{Content, IsContent, Writes, FailsToWrite, Syncs, as_it_reads}
@@ -18,12 +17,12 @@ use Rattle.protocol_laws.specs.Loads.{ShowsLoad}
 abbrev pub IsHeldOther : Held → Type 0
 IsHeldOther held = (held ≡ sure other) ⊎ (held ≡ maybe other)
 
--- the resume that has found it on the disk v
+-- the resume, once it has found the image on the disk v
 abbrev pub with_found_other : Load → disk.DiskImage → Load
 with_found_other load v =
     record { held = load.held; found = found_other v; loader = load.loader; dump = load.dump; check = load.check }
 
--- the machine that runs after it: its tasks' slots are those of the restored memory, as the disk v has them
+-- the machine that runs after the resume: its tasks' slots are those of the restored memory, as the disk v has them
 abbrev pub other_running : Hardware → Load → disk.DiskImage → Running
 other_running h load v = record {
   memory = restored_in h load.dump v load.loader;
@@ -33,7 +32,7 @@ other_running h load v = record {
   held = nothing;
 }
 
--- The read of block(0): with a mark the image is there. Where it is compressed the resume stops, and leaves it.
+-- The read of block(0): if it has a mark, an image exists. If that is compressed, the resume stops and leaves it.
 abbrev pub FindsOther : Type 0
 FindsOther =
     (h : Hardware) (shown shown' : WorldView) (c : Content) (blocks : ℕ) (load : Load) → IsContent blocks c →
@@ -47,7 +46,7 @@ StopsAtOther =
     Stands h shown c (loading load 1) → IsHeldOther load.held → Marked h (as_it_reads c) →
     shown'.activity ≡ rests → shown'.keeps_dump ≡ false → Stands h shown' c (off (sure other) None)
 
--- Block(0) is written taken back. Where the write fails a mark is there or not, and the machine is off.
+-- The write of block(0) with the mark taken back. If it fails, a mark may or may not exist, and the machine is off.
 abbrev pub TakesBackOther : Type 0
 TakesBackOther =
     (h : Hardware) (shown shown' : WorldView) (c c' : Content) (blocks : ℕ) (load : Load) (v : disk.DiskImage) →
@@ -62,7 +61,7 @@ TakeBackOtherFails =
     FailsToWrite (block_of_slot h 0) (taken_back shown.header) c c' → shown'.activity ≡ rests →
     shown'.keeps_dump ≡ false → Stands h shown' c' (off (maybe other) None)
 
--- The sync after it: no image is marked any more.
+-- The sync of the cleared mark: no image is marked any more.
 abbrev pub BackSyncsOther : Type 0
 BackSyncsOther =
     (h : Hardware) (shown shown' : WorldView) (c c' : Content) (blocks : ℕ) (load : Load) (v : disk.DiskImage) →
@@ -75,8 +74,8 @@ BackSyncOtherFails =
     Stands h shown c (loading (with_found_other load v) 3) → shown'.activity ≡ rests → shown'.keeps_dump ≡ false →
     Stands h shown' c (off (maybe other) None)
 
--- A page is read; or it was the last one, and the machine runs, where the restored tables fit it and the area. That the
--- disk v was marked says that its area is the one of block(0) taken back.
+-- A page is read; or it was the last one, and the machine runs, if the restored tables fit the machine and the area. As
+-- the disk v was marked, its area is that of block(0) taken back.
 abbrev pub ReadsPageOther : Type 0
 ReadsPageOther =
     (h : Hardware) (shown shown' : WorldView) (c : Content) (load : Load) (v : disk.DiskImage) (k : ℕ) → 4 ≤ k →

@@ -1,6 +1,6 @@
--- What the calls of the disk of a settling make of the state: block(0) is read, written taken back where it is marked,
--- and synced (swsusp_unmark, kernel/power/swap.c; that a machine does it while it runs is own). It doesn't matter whose
--- the image was.
+-- What a settling's disk calls do to the state: block(0) is read, written with its mark taken back if it has one, and
+-- synced (swsusp_unmark, kernel/power/swap.c; that a machine does it while it runs is own). It doesn't matter whose the
+-- image was.
 use Rattle.std.specs.Prelude.{◌≡◌, ◌<◌, ℕ, List, [], nat_eq, if◌then◌else◌}
 use Rattle.std.specs.Cmp.Lexicographic.{pointwise}
 use Rattle.definitions.specs.Disk.{Content, IsContent, Writes, FailsToWrite, Syncs, as_it_reads}
@@ -14,23 +14,23 @@ use Rattle.plain_machine.specs.State.{on, settling, Running, nothing, perhaps}
 use Rattle.protocol_laws.specs.Rows.{IsSameArea}
 use Rattle.protocol_laws.specs.Undo.{with_held}
 
--- a header block, taken back where it is marked and unchanged where it isn't
+-- a header block with its mark taken back if it has one, else unchanged
 abbrev pub unmarked_block : List ℕ → List ℕ
 unmarked_block header = if pointwise nat_eq (sig_of header) image_signature then taken_back header else header
 
--- the machine, and a disk of so many blocks that has the header block
+-- the machine, and a disk of `blocks` blocks that has the header block
 pub record IsOnDisk (h : Hardware) (blocks : ℕ) (c : Content) : Type 0 where
   pub hardware : IsHardware h
   pub content : IsContent blocks c
   pub header : block_of_slot h 0 < blocks
 
--- It begins,
+-- The settling begins,
 abbrev pub SettleBegins : Type 0
 SettleBegins =
     (h : Hardware) (shown shown' : WorldView) (c : Content) (a : Running) → Stands h shown c (on a) →
     shown'.activity ≡ settles 0 → ShowsRunning h shown' a → NamesHeld h shown' a.held → Stands h shown' c (settling a 0)
 
--- and reads the header block, which is kept. Where that fails the machine runs as it ran.
+-- and reads the header block, which is kept. If the read fails, the machine runs as it ran.
 abbrev pub SettleReads : Type 0
 SettleReads =
     (h : Hardware) (shown shown' : WorldView) (c : Content) (a : Running) → Stands h shown c (settling a 0) →
@@ -42,8 +42,8 @@ SettleReadFails =
     (h : Hardware) (shown shown' : WorldView) (c : Content) (a : Running) → Stands h shown c (settling a 0) →
     shown'.activity ≡ runs → ShowsRunning h shown' a → NamesHeld h shown' a.held → Stands h shown' c (on a)
 
--- The write: from then on the disk reads as unmarked, but a cut may still find the image. Where it fails the machine
--- runs, and the image is there or not.
+-- The write: from then on the disk reads as unmarked, but a cut may still find the image. If the write fails, the
+-- machine runs, and the image may or may not exist.
 abbrev pub SettleWrites : Type 0
 SettleWrites =
     (h : Hardware) (shown shown' : WorldView) (c c' : Content) (blocks : ℕ) (a : Running) → IsOnDisk h blocks c →
@@ -59,14 +59,14 @@ SettleWriteFails =
     ShowsRunning h shown' (with_held a (perhaps a.held)) → NamesHeld h shown' a.held →
     Stands h shown' c' (on (with_held a (perhaps a.held)))
 
--- It leaves the area, failed or not.
+-- The write leaves the area the same, failed or not.
 abbrev pub SettleKeepsArea : Type 0
 SettleKeepsArea =
     (h : Hardware) (shown : WorldView) (c c' : Content) (blocks : ℕ) (a : Running) → IsOnDisk h blocks c →
     Stands h shown c (settling a 1) →
     Tries (block_of_slot h 0) (unmarked_block shown.header) c c' → IsSameArea h (as_it_reads c) (as_it_reads c')
 
--- The sync: no image is there any more. Where it fails the image is there or not.
+-- The sync: from then on no image exists. If the sync fails, the image may or may not exist.
 abbrev pub SettleSyncs : Type 0
 SettleSyncs =
     (h : Hardware) (shown shown' : WorldView) (c c' : Content) (blocks : ℕ) (a : Running) → IsContent blocks c →

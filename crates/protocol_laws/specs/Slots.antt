@@ -10,15 +10,15 @@ pub record IsMemoryOf (h : Hardware) (m : Memory) : Type 0 where
   pub pages : All IsPage m
   pub table : HasTable m h.slot_table h.slots
 
--- slots that are free, as the table stands
+-- slots that are free according to the slot table
 abbrev pub AreFree : Hardware → Memory → List ℕ → Type 0
 AreFree h m slots = (s : ℕ) → Contains slots s → (s < h.slots) × (raw_slot_entry h m s ≡ 0)
 
--- memory where the image has these slots
+-- memory with these slots taken for the image
 abbrev pub taken : Hardware → Memory → List ℕ → Memory
 taken h m slots = with_entries m h.slot_table slots image_slot
 
--- The originals are the image's page frames, those of `zeros` have no data, and the copies have their pages.
+-- The originals are the image's page frames, `empty` has those without data, and the copies have their pages.
 pub record HasSets (i : Image) (m : Memory) (originals copied empty : List ℕ) : Type 0 where
   pub origs : originals ≡ numbers_of i
   pub zeros : empty ≡ without_data i

@@ -21,7 +21,7 @@ abbrev pub zeros_of : Format → Memory → List ℕ → List ℕ
 zeros_of Plain m ps = []
 zeros_of SkipZeros m ps = filter (λ p. is_zeros (frame m p)) ps
 
--- The image is that of the saveable page frames of this memory, and these are its counts.
+-- The image saves the saveable page frames of this memory, and its counts are theirs.
 pub record IsTakenFrom (h : Hardware) (m : Memory) (i : Image) : Type 0 where
   pub origs : saveable h m ≡ numbers_of i
   pub zeros : zeros_of i.format m (saveable h m) ≡ without_data i
@@ -34,7 +34,7 @@ TakesImage =
     (h : Hardware) (m frames : Memory) (slots : SlotPages) (f : Format) → IsHardware h → Fits h m →
     IsSameMemory h m (seen_frames h frames) → NamesNone h frames → IsTakenFrom h frames (image_of_memory h m slots f)
 
--- Where free page frames alone change, the same state runs, and each slot has its entry.
+-- If only free page frames change, the same state runs, and each slot has its entry.
 abbrev pub RunsOverCopies : Type 0
 RunsOverCopies =
     (h : Hardware) (flag : Held) (why : Option NoSwap) (operations : ℕ → Option Flight) (m n : Memory) (a : Running) →

@@ -1,4 +1,4 @@
--- What a hibernation's calls of the disk write.
+-- What a hibernation's disk calls write.
 use Rattle.std.specs.Prelude.{◌≡◌, ◌<◌, ◌^◌, ℕ, List, map}
 use Rattle.definitions.specs.Disk.{Content, IsContent}
 use Rattle.definitions.specs.InfoPage.{IsInfo}
@@ -15,14 +15,14 @@ use Rattle.plain_machine.specs.State.{Running}
 abbrev pub marked_header : Hardware → Running → Image → List ℕ → List ℕ
 marked_header h a i header = marked header (first_map_block h a) (mark_flags i.format) h.hw_sig
 
--- The machine, and a disk of so many blocks. Its numbers fit their fields in an image.
+-- The machine, and a disk of `blocks` blocks. The image's numbers fit their fields.
 pub record IsOverDisk (h : Hardware) (i : Image) (blocks : ℕ) (c : Content) : Type 0 where
   pub hardware : IsHardware h
   pub info : IsInfo (info_of_image i)
   pub content : IsContent blocks c
   pub few : blocks < 2 ^ 32
 
--- A world after whose hibernation this running state waits shows it, its copies, and no slot of another image.
+-- A world whose hibernation began in this running state shows the state, its copies, and no slot of another image.
 pub record ShowsCopies (h : Hardware) (shown : WorldView) (a : Running) (i : Image) : Type 0 where
   pub shows : ShowsRunning h shown a
   pub names : NamesOnly h shown (laid_blocks h a i)

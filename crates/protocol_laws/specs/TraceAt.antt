@@ -8,16 +8,16 @@ use Rattle.plain_machine.specs.declared.event.IdentCheck.{IdentCheck}
 use Rattle.plain_machine.specs.declared.reply.Reply.{Reply}
 use Rattle.plain_machine.specs.declared.reply.Reply.TheVariants as reply
 
--- what step k + 1 answers where nothing is wrong
+-- the reply to step k + 1 if nothing is wrong
 abbrev pub reply_past : Hardware → Memory → disk.DiskImage → Loader → ℕ → Reply
 reply_past h dump v loader k =
     if nat_lt (k + 1) (step_count h v) then reply.Loading (k + 1) else last_reply h dump v loader
 
--- the reply of step k + 1 over a disk that reads v, where no step before it has stopped
+-- the reply to step k + 1 over a disk that reads v, if no earlier step has stopped
 abbrev pub reply_at : Hardware → Memory → disk.DiskImage → Loader → IdentCheck → ℕ → Reply
 reply_at h dump v loader check k = unwrap_or (step_cause h dump v loader check k) (reply_past h dump v loader k)
 
--- Where each step before answered Loading, the trace has that reply.
+-- If each earlier step replied Loading, the trace has that reply at step k + 1.
 abbrev pub TracesAt : Type 0
 TracesAt =
     (h : Hardware) (dump : Memory) (v : disk.DiskImage) (loader : Loader) (check : IdentCheck) (k : ℕ) →

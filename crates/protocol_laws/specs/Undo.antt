@@ -1,5 +1,5 @@
--- What an undo's calls of the disk make of the state: block(0) is written taken back, and synced (the machine runs
--- again, while a hibernation's mark or its last sync has failed; swsusp_unmark, kernel/power/swap.c).
+-- What an undo's disk calls do to the state: block(0) is written with the mark taken back, and synced. An undo follows
+-- a hibernation's mark or last sync that failed, and the machine runs again (swsusp_unmark, kernel/power/swap.c).
 use Rattle.std.specs.Prelude.{◌≡◌, ℕ, []}
 use Rattle.definitions.specs.Bytes.{IsPage}
 use Rattle.definitions.specs.Disk.{Content, IsContent, Writes, FailsToWrite, Syncs}
@@ -12,12 +12,12 @@ use Rattle.plain_machine.specs.State.{on, undoing, Running, Held, nothing, maybe
 use Rattle.plain_machine.specs.declared.reply.UndoCall.{UndoCall}
 use Rattle.protocol_laws.specs.Steps.{IsOverDisk}
 
--- the running machine, where this is held
+-- the running machine with `held` as what is held
 abbrev pub with_held : Running → Held → Running
 with_held a held = record a { held = held }
 
--- The write: from then on the disk reads as unmarked, but a cut may still find the image. Where it fails the machine
--- runs, and the image is there or not; its slots stay its own.
+-- The write: from then on the disk reads as unmarked, but a cut may still find the image. If the write fails, the
+-- machine runs, and the image may or may not exist; its slots stay its own.
 abbrev pub UndoWrites : Type 0
 UndoWrites =
     (h : Hardware) (shown shown' : WorldView) (c c' : Content) (blocks : ℕ) (i : Image) (call : UndoCall)
@@ -35,7 +35,7 @@ UndoWriteFails =
     ShowsRunning h shown' (with_held a (maybe (own i))) → NamesOnly h shown' (laid_blocks h a i) →
     Stands h shown' c' (on (with_held a (maybe (own i))))
 
--- The sync: no image is there any more. Where it fails the image is there or not.
+-- The sync: from then on no image exists. If the sync fails, the image may or may not exist.
 abbrev pub UndoSyncs : Type 0
 UndoSyncs =
     (h : Hardware) (shown shown' : WorldView) (c c' : Content) (blocks : ℕ) (i : Image) (call : UndoCall)

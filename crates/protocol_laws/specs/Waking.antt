@@ -1,7 +1,7 @@
--- What the calls of the disk of a waking make of the state: block(0) is read, written taken back where it is marked,
--- and synced, before the machine that slept runs again (hibernation mode "suspend", kernel/power/hibernate.c;
--- swsusp_unmark, kernel/power/swap.c). The image that is held is the state's; the running state is that from before the
--- suspend, in which nothing was.
+-- What a waking's disk calls do to the state: block(0) is read, written with its mark taken back if it has one, and
+-- synced, before the machine that slept runs again (hibernation mode "suspend", kernel/power/hibernate.c;
+-- swsusp_unmark, kernel/power/swap.c). The held image is part of the state `waking`; the running state in it is the one
+-- from before the suspend, in which nothing was held.
 use Rattle.std.specs.Prelude.{◌≡◌, ℕ, []}
 use Rattle.definitions.specs.Disk.{Content, IsContent, Writes, FailsToWrite, Syncs, as_it_reads}
 use Rattle.image_laws.specs.ImageBlocks.{Tries}
@@ -15,7 +15,7 @@ use Rattle.protocol_laws.specs.Rows.{IsSameArea}
 use Rattle.protocol_laws.specs.Settling.{IsOnDisk, unmarked_block}
 use Rattle.protocol_laws.specs.Undo.{with_held}
 
--- It begins,
+-- The waking begins,
 abbrev pub WakeBegins : Type 0
 WakeBegins =
     (h : Hardware) (shown shown' : WorldView) (c : Content) (i : Image) (held : Held) (a : Running) →
@@ -23,7 +23,7 @@ WakeBegins =
     shown'.activity ≡ wakes 0 → ShowsRunning h shown' a → NamesHeld h shown' held →
     Stands h shown' c (waking i held a 0)
 
--- and reads the header block, which is kept. Where that fails the machine sleeps as it slept.
+-- and reads the header block, which is kept. If the read fails, the machine sleeps as it slept.
 abbrev pub WakeReads : Type 0
 WakeReads =
     (h : Hardware) (shown shown' : WorldView) (c : Content) (i : Image) (held : Held) (a : Running) →
@@ -37,8 +37,8 @@ WakeReadFails =
     Stands h shown c (waking i held a 0) →
     shown'.activity ≡ sleeps → ShowsRunning h shown' a → NamesHeld h shown' held → Stands h shown' c (asleep i held a)
 
--- The write: from then on the disk reads as unmarked, but a cut may still find the image. Where it fails the machine
--- sleeps, and the image is there or not.
+-- The write: from then on the disk reads as unmarked, but a cut may still find the image. If the write fails, the
+-- machine sleeps, and the image may or may not exist.
 abbrev pub WakeWrites : Type 0
 WakeWrites =
     (h : Hardware) (shown shown' : WorldView) (c c' : Content) (blocks : ℕ) (i : Image) (held : Held) (a : Running) →
@@ -53,14 +53,15 @@ WakeWriteFails =
     FailsToWrite (block_of_slot h 0) (unmarked_block shown.header) c c' → shown'.activity ≡ sleeps →
     ShowsRunning h shown' a → NamesHeld h shown' held → Stands h shown' c' (asleep i (perhaps held) a)
 
--- It leaves the area, failed or not.
+-- The write leaves the area the same, failed or not.
 abbrev pub WakeKeepsArea : Type 0
 WakeKeepsArea =
     (h : Hardware) (shown : WorldView) (c c' : Content) (blocks : ℕ) (i : Image) (held : Held) (a : Running) →
     IsOnDisk h blocks c → Stands h shown c (waking i held a 1) →
     Tries (block_of_slot h 0) (unmarked_block shown.header) c c' → IsSameArea h (as_it_reads c) (as_it_reads c')
 
--- The sync: no image is there any more, and the machine runs. Where it fails it sleeps, and the image is there or not.
+-- The sync: from then on no image exists, and the machine runs. If the sync fails, the machine sleeps, and the image
+-- may or may not exist.
 abbrev pub WakeSyncs : Type 0
 WakeSyncs =
     (h : Hardware) (shown shown' : WorldView) (c c' : Content) (blocks : ℕ) (i : Image) (held : Held) (a : Running) →

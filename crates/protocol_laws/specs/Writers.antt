@@ -1,5 +1,5 @@
--- A writer at work for a hibernation: what it writes next is the next write of the hibernation, and what the world
--- shows stays.
+-- A writer at work for a hibernation: its next write is the hibernation's next write, and what the world shows stays
+-- the same.
 use Rattle.std.specs.Prelude.{◌≡◌, ℕ, List, Contains}
 use Rattle.definitions.specs.Tables.{with_entries}
 use Rattle.image_laws.specs.Decoding.{IsSayable}
@@ -13,7 +13,7 @@ use Rattle.protocol_laws.specs.Steps.{ShowsCopies}
 use Rattle.protocol_laws.specs.Rows.{write_of_step}
 use Rattle.protocol_laws.specs.Slots.{IsMemoryOf, HasSets}
 
--- The writer of the image of a hibernation that has made k writes.
+-- The writer of a hibernation's image, after k writes.
 pub record IsWriterOf (h : Hardware) (a : Running) (i : Image) (k : ℕ) (frames : Memory) (w : Writing) : Type 0 where
   pub info : w.info ≡ info_of_image i
   pub extents : w.extents ≡ h.extents
@@ -21,7 +21,7 @@ pub record IsWriterOf (h : Hardware) (a : Running) (i : Image) (k : ℕ) (frames
   pub made : w.written ≡ k
   pub writing : IsWriting (unused_slots h a.memory) frames w
 
--- what it writes next is the write of step k + 1
+-- the writer's next write is that of step k + 1
 abbrev pub WritesNext : Type 0
 WritesNext =
     (h : Hardware) (a : Running) (i : Image) (k : ℕ) (frames : Memory) (w : Writing) (origs copies zeros : List ℕ) →
@@ -29,7 +29,7 @@ WritesNext =
     write_next (unused_slots h a.memory) w (page_next (stream_of_sets w.info frames origs copies zeros) w) ≡
     write_of_step h a i k
 
--- the world that shows this, with the slots of write k taken
+-- the new world shows what the old one does, with the slots of write k taken
 pub record TakesSlots (h : Hardware) (a : Running) (w : Writing) (k : ℕ) (old new : WorldView) : Type 0 where
   pub held : new.held ≡ old.held
   pub unusable : new.unusable ≡ old.unusable
@@ -38,7 +38,7 @@ pub record TakesSlots (h : Hardware) (a : Running) (w : Writing) (k : ℕ) (old 
   pub frames : new.frames ≡ with_entries old.frames h.slot_table (slots_of_write w.info (unused_slots h a.memory) k)
       image_slot
 
--- it still shows the running state, its copies, and no slot of another image
+-- the new world still shows the running state, its copies, and no slot of another image
 abbrev pub ShowsStill : Type 0
 ShowsStill =
     (h : Hardware) (a : Running) (i : Image) (k : ℕ) (w : Writing) (old new : WorldView) → IsHardware h →

@@ -1,4 +1,4 @@
-//! Dropping page frames that hold what can be read again, so that an image becomes as small as is wanted (own policy;
+//! Drops page frames that hold what can be read again, until an image is as small as wanted (this project's own policy;
 //! in Linux shrink_all_memory, mm/vmscan.c, for hibernate_preallocate_memory, kernel/power/snapshot.c).
 #![tactic(auto)]
 
@@ -17,8 +17,8 @@ use page_states::{PageFlags, entry, set_entry};
 use saveable::{View, saveable};
 use zones::Zones;
 
-/// Whether page frame `p` may be dropped: it is valid, its one flag is CACHE, and it lies in none of the runs (first,
-/// count) that are kept.
+/// Returns whether page frame `p` may be dropped: it is valid, its only flag is CACHE, and it lies in none of the runs
+/// (first, count) that are kept.
 pub fn droppable(view: &View, keep: &[(u32, u32)], p: u32) -> bool
     requires { HasTable view.now.frames.now view.now.table (top view.now.zones.now) }
     ensures { IsTrue result ↔ Contains (droppable_frames view.now.zones.now view.now.table keep.now view.now.frames.now)
@@ -27,9 +27,9 @@ pub fn droppable(view: &View, keep: &[(u32, u32)], p: u32) -> bool
     view.zones.valid(p) && may_drop(view.frames, view.table, keep, p)
 }
 
-/// Drops the first of the page frames that may be dropped, until `want` saveable ones are left or there is none more:
-/// their entries in the frame table, which begins at page frame `table`, become FREE. It answers how many it dropped,
-/// and how many saveable page frames are left.
+/// Drops the first of the page frames that may be dropped, until `want` saveable ones are left or no more may be
+/// dropped: their entries in the frame table, which begins at page frame `table`, become FREE. Returns how many it
+/// dropped, and how many saveable page frames are left.
 pub fn shrink(
     frames: &mut Frames,
     zones: &Zones,
@@ -46,7 +46,7 @@ pub fn shrink(
         (dropped_frames zones.now table keep.now want frames.old) }
     ensures len { length frames.new ≡ length frames.old }
 {
-    // Each page frame has 4096 bytes, so that an entry that is set leaves the others.
+    // Each page frame has 4096 bytes, so setting an entry leaves the others.
     let _ = frames.len();
     let saved = count_saveable(frames, zones, table);
     let most = u64::from(saved).saturating_sub(want) as u32;
@@ -57,7 +57,7 @@ pub fn shrink(
     (dropped, saved - dropped)
 }
 
-/// How many page frames are saveable.
+/// Returns how many page frames are saveable.
 fn count_saveable(frames: &Frames, zones: &Zones, table: u32) -> u32
     requires { HasTable frames.now table (top zones.now) }
     ensures { result ≡ length (saveable_frames zones.now table frames.now) }
@@ -74,7 +74,7 @@ fn count_saveable(frames: &Frames, zones: &Zones, table: u32) -> u32
     count
 }
 
-/// How many page frames of a zone are saveable.
+/// Returns how many page frames of a zone are saveable.
 fn saveable_in_zone(view: &View, zone: (u32, u32)) -> u32
     requires zone { IsZone zone }
     requires valid { (p : ℕ) → zone.0 ≤ p → p < zone_end zone → Contains (numbers view.now.zones.now) p }
@@ -92,7 +92,7 @@ fn saveable_in_zone(view: &View, zone: (u32, u32)) -> u32
     saved
 }
 
-/// Drops the first of a zone's page frames that may be dropped, at most so many.
+/// Drops the first of a zone's page frames that may be dropped, at most `most`.
 fn drop_in_zone(
     frames: &mut Frames,
     table: u32,
@@ -108,7 +108,7 @@ fn drop_in_zone(
         (take most (filter (may_drop keep.now table frames.old) (range_with_len zone.0 zone.1))) }
     ensures len { length frames.new ≡ length frames.old }
 {
-    // Each page frame has 4096 bytes, so that an entry that is set leaves the others.
+    // Each page frame has 4096 bytes, so setting an entry leaves the others.
     let _ = frames.len();
     let (start, count) = zone;
     let mut dropped = 0;
@@ -121,7 +121,7 @@ fn drop_in_zone(
     dropped
 }
 
-/// Whether page frame `p`, a valid one, may be dropped.
+/// Returns whether page frame `p`, a valid one, may be dropped.
 fn may_drop(frames: &Frames, table: u32, keep: &[(u32, u32)], p: u32) -> bool
     requires { table + p / 1024 < length frames.now }
     ensures { result ≡ may_drop keep.now table frames.now p }
@@ -130,7 +130,7 @@ fn may_drop(frames: &Frames, table: u32, keep: &[(u32, u32)], p: u32) -> bool
     flags == PageFlags::CACHE && !lies_in(keep, p)
 }
 
-/// Whether page frame `p` lies in one of the runs.
+/// Returns whether page frame `p` lies in one of the runs.
 fn lies_in(runs: &[(u32, u32)], p: u32) -> bool
     ensures { result ≡ is_in_runs runs.now p }
 {

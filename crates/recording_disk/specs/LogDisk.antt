@@ -1,4 +1,4 @@
--- What contracts say of a disk in memory that records its calls, beside what it tells as a disk.
+-- What contracts say of a disk in memory that records its calls, besides what they say of every disk.
 use Rattle.std.specs.Prelude.{◌≡◌, ℕ, ◌+◌, ◌*◌, ◌<◌, ◌≤◌, ◌↔◌, List, [], ◌∷◌, ◌++◌, length, replicate, Result, OnOk}
 use Rattle.std.specs.Prelude.{OnErr}
 use Rattle.definitions.specs.Disk.{Content, DiskImage, raised}
@@ -9,7 +9,7 @@ use Rattle.recording_disk.specs.declared.log_disk.LogDisk.{LogDisk}
 use Rattle.sector_disk.specs.declared.orders.Order.{Order}
 use Rattle.sector_disk.specs.declared.recorded.Recorded.{Recorded}
 
--- how many blocks it has
+-- how many blocks the disk has
 abbrev pub block_count : LogDisk → ℕ
 block_count d = memory.block_count d.disk
 
@@ -29,15 +29,15 @@ orders_got d = memory.orders_got d.disk
 abbrev pub first_sectors : LogDisk → DiskImage
 first_sectors d = d.start.items
 
--- its writes and syncs since the last restart
+-- the disk's writes and syncs since the last restart
 abbrev pub recorded : LogDisk → List Recorded
 recorded d = d.log.items
 
--- how many writes and syncs it may record
+-- how many writes and syncs the disk may record
 abbrev pub room : LogDisk → ℕ
 room d = d.room
 
--- it has no room for another write or sync
+-- the disk has no room for another write or sync
 abbrev pub IsFull : LogDisk → Type 0
 IsFull d = room d ≤ length (recorded d)
 
@@ -49,7 +49,7 @@ durable_sectors d = memory.durable_sectors d.disk
 abbrev pub live_sectors : LogDisk → DiskImage
 live_sectors d = memory.live_sectors d.disk
 
--- what it tells of its content
+-- what the disk tells of its content
 abbrev pub content : LogDisk → Content
 content d = held_after (first_sectors d) (recorded d)
 
@@ -61,15 +61,15 @@ moment d = length (recorded d)
 abbrev pub left_since : LogDisk → ℕ → DiskImage → Type 0
 left_since d = WasLeft (first_sectors d) (recorded d)
 
--- the call number k from now is to fail; the next one has number 1
+-- call number k from now will fail; the next call has number 1
 abbrev pub IsArmed : LogDisk → ℕ → Type 0
 IsArmed d k = memory.IsArmed d.disk k
 
--- the pick of the sectors that a write takes where it is armed
+-- the pick of the sectors that an armed write still writes
 abbrev pub armed_pick : LogDisk → ℕ
 armed_pick d = memory.armed_pick d.disk
 
--- A read, a write or a sync: the armed calls are one nearer, and a failure is a fault.
+-- A read, a write or a sync: the armed calls come one nearer, and a failure is a fault.
 pub record IsRecordedCall {T E : Type 0} (old new : LogDisk) (result : Result T E) : Type 0 where
   pub later : (k : ℕ) → 0 < k → IsArmed new k ↔ IsArmed old (k + 1)
   pub pick : armed_pick new ≡ armed_pick old
@@ -103,7 +103,7 @@ pub record IsOrdered (order : Order) (old new : LogDisk) : Type 0 where
   pub blocks : block_count new ≡ block_count old
   pub room_is : room new ≡ room old
 
--- a disk as it is made: zeros, nothing counted, nothing armed, and room for so many calls
+-- a new disk: zeros, nothing counted, nothing armed, and room for the given number of calls
 pub record IsNewLogDisk (blocks calls : ℕ) (d : LogDisk) : Type 0 where
   pub blocks_are : block_count d ≡ blocks
   pub durable : durable_sectors d ≡ replicate (8 * blocks) (replicate 512 0)

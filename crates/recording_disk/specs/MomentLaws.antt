@@ -29,7 +29,7 @@ pub along : (c d e f : Content) (v : DiskImage) → c ≡ e → d ≡ f → IsMi
 along c d e f v p q mixed =
     subst (λ (x : Content). IsMixture e x v) q (subst (λ (x : Content). IsMixture x d v) p mixed)
 
--- this moment is one of those since an earlier one
+-- what a cut now might leave, a cut since an earlier moment might have left
 pub WasLeft-now : (start : DiskImage) (log : List Recorded) (t : ℕ) (v : DiskImage) → t ≤ length log →
     IsImage (held_after start log) v → WasLeft start log t v
 WasLeft-now start log t v le image =
@@ -44,7 +44,7 @@ WasLeft-now start log t v le image =
           (held_at start log (length log + 1)) v all more (IsMixture-image (held_after start log) v image),
     )
 
--- since this moment there is no other
+-- what a cut since the present moment might have left, a cut now might leave
 pub WasLeft-only : (start : DiskImage) (log : List Recorded) (v : DiskImage) → WasLeft start log (length log) v →
     IsImage (held_after start log) v
 WasLeft-only start log v (k, low, high, mixed) =

@@ -11,12 +11,12 @@ use std::alloc::Global;
 /// A disk in memory that records its writes and syncs since the last restart.
 ///
 /// It tells its content, with every candidate since the last sync: what the last sync or restart left, and what each
-/// write since then wrote. A restart takes of each sector the live bytes or those of the last sync, as its pick says.
-/// It tells moments too: the clock is the number of the recorded calls, and a restart begins a new record. A test of
+/// write since then wrote. For each sector, a restart takes the live bytes or those of the last sync, as its pick says.
+/// The disk tells moments too: the clock is the number of recorded calls, and a restart begins a new record. A test of
 /// power cuts may also restart it at an earlier moment.
 ///
-/// Each write and each sync takes room in the record, also one that fails because it was armed. Without room it fails,
-/// is a fault, and leaves every sector.
+/// Each write and each sync takes room in the record, even one that fails because it was armed. Without room a call
+/// fails, is a fault, and leaves every sector.
 #[derive(Drop)]
 pub struct LogDisk {
     disk: MemDisk,
@@ -45,7 +45,7 @@ impl LogDisk {
     ghost use Rattle.recording_disk.specs.LogDisk.{LeavesAll};
     ghost use Rattle.sector_disk.specs.declared.orders.Order.TheVariants as order;
 
-    /// A disk of zeros, with room for so many recorded calls.
+    /// Makes a disk of zeros, with room for `calls` recorded calls.
     pub fn create(alloc: Global, blocks: u32, calls: u32) -> Result<LogDisk, NoMemory>
         ensures { IfOk result (IsNewLogDisk blocks calls) }
     {
@@ -60,9 +60,9 @@ impl LogDisk {
         })
     }
 
-    /// A power cut at an earlier moment: after so many of the recorded calls, or after all where there are fewer. It
-    /// takes of each sector the bytes that were live then, or those that the last sync before left, as the pick says.
-    /// Like a restart it begins a new record.
+    /// Cuts the power at an earlier moment: after `calls` of the recorded calls, or after all if there are fewer. For
+    /// each sector, takes the bytes that were live then or those that the last sync before left, as the pick says. Like
+    /// a restart, this begins a new record.
     pub fn restart_at(&mut self, calls: u32, pick: u64)
         ensures restarted { Restarts (held_at (first_sectors self.old) (recorded self.old) calls) (content self.new) }
         ensures past { calls ≤ moment self.old → (v : DiskImage) × left_since self.old calls v
@@ -80,16 +80,16 @@ impl LogDisk {
         self.restart(pick);
     }
 
-    /// How many calls are recorded since the last restart.
+    /// Returns how many calls were recorded since the last restart.
     pub fn recorded_calls(&self) -> u32
         ensures { result ≡ moment self.now }
     {
-        // A proof knows the range of a field once it is read.
+        // Reading a field tells the prover its range.
         let _room = self.room;
         self.log.len() as u32
     }
 
-    /// Whether there is no room for another write or sync.
+    /// Returns whether there is no room for another write or sync.
     pub fn is_full(&self) -> bool
         ensures { IsTrue result ↔ IsFull self.now }
     {
@@ -107,7 +107,7 @@ impl LogDisk {
     }
 }
 
-/// So many sectors of zeros.
+/// Makes `count` sectors of zeros.
 fn zero_sectors(alloc: Global, count: usize) -> Result<Vec<Sector>, NoMemory>
     ensures { IfOk result (λ sectors. sectors.items ≡ replicate count (replicate 512 0)) }
 {

@@ -5,7 +5,7 @@ use page_core::{Failed, Page};
 use sector_disk::{Disk, MemDisk};
 use std::test::Fail;
 
-// The first bytes of the sectors of a block, as the disk reads.
+// Returns the first bytes of the sectors of a block, as the disk reads.
 fn first_bytes<D: Disk>(disk: &mut D, b: u32) -> Result<[u8; 8], Failed>
     requires { b < D.block_count disk.old }
     ensures { D.block_count disk.new ≡ D.block_count disk.old }

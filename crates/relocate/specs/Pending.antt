@@ -13,7 +13,7 @@ pub record IsPending (moves : List Move) : Type 0 where
   pub targets : TargetsOnce moves
   pub sources : (p q : ℕ) (m n : Move) → move_into moves p ≡ Some m → move_into moves q ≡ Some n → m.0 ≡ n.0 → p ≡ q
 
--- Moves between page frames below `top`: the sources are distinct, and so are the targets; the bounce frame is none.
+-- Moves between page frames below `top`, with distinct sources and distinct targets. None uses the bounce frame.
 pub record IsMovable (top bounce : ℕ) (moves : List Move) : Type 0 where
   pub pending : IsPending moves
   pub below : (p : ℕ) (m : Move) → move_into moves p ≡ Some m → (m.0 < top) × (m.1 < top)

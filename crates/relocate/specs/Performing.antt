@@ -3,7 +3,7 @@ use Rattle.std.specs.Prelude.{ℕ, ◌==◌, not, filter, List, [], ◌∷◌}
 use Rattle.definitions.specs.Moves.{Move, Entry}
 use Rattle.definitions.specs.FrameRuns.{run_at, with_run}
 
--- memory after these entries: each moves its run of pages, read before any of them is written
+-- memory after these entries: each moves its run of pages, all read before any is written
 abbrev pub performed : List (List ℕ) → List Entry → List (List ℕ)
 performed frames [] = frames
 performed frames (e ∷ entries) = performed (with_run frames e.1 (run_at e.2 frames e.0)) entries

@@ -31,12 +31,12 @@ pub record IsReady (memory : List (List ℕ)) (listed : Listed) : Type 0 where
 abbrev pub steps_of : List Entry → ℕ
 steps_of entries = sum_by (λ e. e.2) entries
 
--- A placement whose list memory held: what the moves do at once, they did, but for the bounce frame.
+-- If memory held a placement's list, its moves had the effect of moves made at once, except on the bounce frame.
 abbrev pub Relocates : List (List ℕ) → List (List ℕ) → Listed → Type 0
 Relocates old new listed =
     (p : Placed) → IsPlacement p → top p.zones ≤ length old → LiesIn old listed (order_of p) →
     (q : ℕ) → q ≢ p.bounce → frame new q ≡ frame (assigned old p.moves) q
 
--- so many steps, of which each cycle of two or more moves costs one more
+-- the most steps: one for each move, and one more for each cycle, which has at least two moves
 abbrev pub most_steps : Placed → ℕ
 most_steps p = length (real_moves p.moves) + length (real_moves p.moves) / 2

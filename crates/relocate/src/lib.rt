@@ -1,4 +1,4 @@
-//! Pages moved over each other: the order of the moves, and their performance (the restore list of
+//! Moves pages over each other: puts the moves in order, and performs them (the restore list of
 //! kernel/power/snapshot.c). On resume the saved pages wait wherever the loader has room, often in page frames that
 //! other saved pages must go to.
 #![tactic(auto)]
@@ -27,7 +27,7 @@ use std::marker::Model;
 use std::sync::ledger::Ledger;
 pub use steps::Steps;
 
-/// The memory in which moves are put in order. It is taken once; a contract sees up to which page frame it has room.
+/// The memory in which moves are put in order. It is taken once; a contract sees up to which page frame it suffices.
 #[derive(Drop)]
 pub struct Work {
     order: Order,
@@ -46,7 +46,7 @@ impl Model for Work {
 }
 
 impl Work {
-    /// With room for moves between page frames below `top`.
+    /// Takes memory for moves between page frames below `top`.
     pub fn create(alloc: Global, top: u32) -> Result<Work, NoMemory>
         ensures { IfOk result (λ work. work ≡ top) }
     {
@@ -66,7 +66,7 @@ pub fn sequence(placement: &Placement, work: &mut Work, frames: &mut Frames, lis
     ensures ready { IsReady frames.new list.new }
     ensures list { list.new ≡ record list.old { len = length (order_of placement.now) } }
     ensures others { (p : ℕ) → (Contains placement.now.list p → ⊥) → frame frames.new p ≡ frame frames.old p }
-    // The moves at once, as `execute` makes them, bring the pages from before the call.
+    // Outside the list frames, the moves, all at once as `execute` makes them, have the same result as before the call.
     ensures moves { (p : ℕ) → (Contains placement.now.list p → ⊥) →
         frame (assigned frames.new placement.now.moves) p ≡ frame (assigned frames.old placement.now.moves) p }
     ensures size { length frames.new ≡ length frames.old }
@@ -77,7 +77,7 @@ pub fn sequence(placement: &Placement, work: &mut Work, frames: &mut Frames, lis
     write_runs(work.order.moves(), bounce, frames, list);
 }
 
-/// Moves the pages of a restore list, run by run. Each page that is copied is a step.
+/// Moves the pages of a restore list, run by run. Each page copied is a step.
 pub fn execute<L: Ledger>(frames: &mut Frames, list: &RestoreList, steps: &mut Steps<L>)
     requires { IsReady frames.old list.now }
     ensures performed { (entries : List Entry) → LiesIn frames.old list.now entries →

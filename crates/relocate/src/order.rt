@@ -7,17 +7,17 @@ ghost use Rattle.relocate.specs.Pending.{IsMovable, begun};
 use page_core::NoMemory;
 use std::alloc::Global;
 
-/// Moves of pages on their way into an order in which none overwrites a page that is still to be moved.
+/// Moves that are being put in an order in which none overwrites a page that is still to be moved.
 #[derive(Drop)]
 pub(crate) struct Order {
-    /// The tables are over the page frames below this one.
+    /// The number of page frames that the tables cover, from 0 on.
     top: u32,
     /// The source of the pending move into each page frame.
     sources: Vec<Option<u32>>,
     /// Whether a pending move leaves each page frame.
     leaves: Vec<bool>,
     pending: usize,
-    /// The moves in order are the first `len` of these.
+    /// The moves in order, which are the first `len` of these.
     moves: Vec<(u32, u32)>,
     len: usize,
 }
@@ -25,7 +25,7 @@ pub(crate) struct Order {
 impl Order {
     ghost use Rattle.relocate.specs.Tables.{Follows, HasPass, HasRoom, IsAt, IsSized};
 
-    /// With room for moves between page frames below `top`.
+    /// Takes memory for moves between page frames below `top`.
     pub(crate) fn create(alloc: Global, top: u32) -> Result<Order, NoMemory>
         ensures top { IfOk result (λ order. order.top ≡ top) }
         ensures sized { IfOk result IsSized }
@@ -41,7 +41,7 @@ impl Order {
         })
     }
 
-    /// Puts moves in order. Each cycle of them goes through the bounce frame.
+    /// Puts moves in order. Each cycle goes through the bounce frame.
     pub(crate) fn arrange(&mut self, moves: &[(u32, u32)], bounce: u32)
         requires sized { IsSized self.old }
         requires movable { IsMovable self.old.top bounce moves.now }
@@ -57,7 +57,7 @@ impl Order {
         self.break_cycles(bounce);
     }
 
-    /// The moves in order.
+    /// Returns the moves in order.
     pub(crate) fn moves(&self) -> &[(u32, u32)]
         requires { self.now.len ≤ length self.now.moves.items }
         ensures { result.now ≡ take self.now.len self.now.moves.items }
@@ -65,7 +65,7 @@ impl Order {
         &self.moves[..self.len]
     }
 
-    /// Makes moves pending, but for those of a page frame to itself.
+    /// Makes moves pending, except those of a page frame to itself.
     fn load(&mut self, moves: &[(u32, u32)])
         requires sized { IsSized self.old }
         requires movable { (bounce : ℕ) × IsMovable self.old.top bounce moves.now }
@@ -87,8 +87,8 @@ impl Order {
         }
     }
 
-    /// From the highest target to the lowest: puts each pending move in order that overwrites no page which is to be
-    /// moved.
+    /// Goes from the highest target to the lowest, and puts in order each pending move that overwrites no page still to
+    /// be moved.
     fn descend(&mut self)
         requires pass { HasPass self.old }
         requires room { HasRoom self.old }
@@ -100,7 +100,7 @@ impl Order {
         }
     }
 
-    /// The same from the lowest target to the highest.
+    /// Does the same from the lowest target to the highest.
     fn ascend(&mut self)
         requires pass { HasPass self.old }
         requires room { HasRoom self.old }
@@ -152,7 +152,7 @@ impl Order {
         }
     }
 
-    /// Puts the path of pending moves in order that ends in a page frame whose own page isn't to be moved.
+    /// Puts in order the path of pending moves that ends in a page frame whose own page isn't to be moved.
     fn emit_path(&mut self, end: u32)
         requires pass { HasPass self.old }
         requires within { end < self.old.top }
@@ -170,7 +170,7 @@ impl Order {
         }
     }
 
-    /// Puts the cycle of pending moves through a page frame in order. Its page waits in the bounce frame.
+    /// Puts in order the cycle of pending moves through a page frame, whose page waits in the bounce frame.
     fn emit_cycle(&mut self, start: u32, bounce: u32)
         requires pass { HasPass self.old }
         requires within { start < self.old.top }
@@ -205,7 +205,7 @@ impl Order {
         self.len += 1;
     }
 
-    /// Takes the pending move into a page frame away, and answers its source.
+    /// Removes the pending move into a page frame, and returns its source.
     fn take(&mut self, target: u32) -> Option<u32>
         requires pass { HasPass self.old }
         requires within { target < self.old.top }
@@ -224,7 +224,7 @@ impl Order {
     }
 }
 
-/// Where the page lies that a cycle's move takes from `source`: that of `start` waits in the bounce frame.
+/// Returns where the page lies that a cycle's move takes from `source`: the page of `start` waits in the bounce frame.
 fn source_in_cycle(source: u32, start: u32, bounce: u32) -> u32
     ensures { (target : ℕ) → (result, target) ≡ with_bounce bounce start (source, target) }
 {

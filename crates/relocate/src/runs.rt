@@ -10,8 +10,7 @@ use restore_list::RestoreList;
 /// A run of moves: the page of `from + i` goes to `to + i`, for each i below `count`.
 type Run = (u32, u32, u32);
 
-/// Writes moves, in their order, into an empty restore list. A move is joined to the run before it where it continues
-/// that.
+/// Writes moves, in order, into an empty restore list. A move that continues the run before it is joined to that run.
 pub(crate) fn write_runs(
     moves: &[(u32, u32)],
     bounce: u32,
@@ -42,7 +41,7 @@ pub(crate) fn write_runs(
     list.push(frames, run.0, run.1, run.2);
 }
 
-/// The run that a move makes of the one before it, where it continues that one.
+/// Returns the run that a move makes of the run before it, if it continues that one.
 fn continue_run(run: Run, next: (u32, u32), bounce: u32) -> Option<Run>
     requires run { LiesBelow 65536 run }
     requires next { (next.0 < 65536) × (next.1 < 65536) }

@@ -22,12 +22,12 @@ listed_frames h v = frames_in h v (info_in h v).image_pages
 abbrev pub listed_marks : Hardware → disk.DiskImage → List ℕ
 listed_marks h v = marked_in h v (info_in h v).image_pages
 
--- how many data pages the first t places have
+-- the number of data pages among the first t places
 abbrev pub data_before : Hardware → disk.DiskImage → ℕ → ℕ
 data_before h v t = pages_read t - 1 - meta_in h v
 
--- The page frames with data pages are those that are listed without a mark, as the reader says it and as the pages
--- wait.
+-- The page frames with data pages are those listed without a mark, by the reader's definition and by that of the
+-- waiting pages.
 abbrev pub ReadsWithData : Type 0
 ReadsWithData =
     (h : Hardware) (v : disk.DiskImage) → IsStrictlyIncreasing (listed_frames h v) →
@@ -55,7 +55,7 @@ ListedSets =
 abbrev pub DataCount : Type 0
 DataCount = (h : Hardware) (v : disk.DiskImage) → length (data_frames h v) ≡ d_in h v
 
--- The place whose page is page frame p's has the next data page.
+-- The place whose page belongs to page frame p has the next data page.
 pub record IsNextPage (h : Hardware) (v : disk.DiskImage) (t p : ℕ) : Type 0 where
   pub within : data_before h v t < length (data_frames h v)
   pub frame : slice_get (data_frames h v) (data_before h v t) ≡ Some p
@@ -65,7 +65,7 @@ pub record IsNextPage (h : Hardware) (v : disk.DiskImage) (t p : ℕ) : Type 0 w
 abbrev pub NextPage : Type 0
 NextPage = (h : Hardware) (v : disk.DiskImage) (t p : ℕ) → frame_at h v (place t) ≡ Some p → IsNextPage h v t p
 
--- a place that was read and is no data page's
+-- a place that was read and has no data page
 abbrev pub NoPage : Type 0
 NoPage =
     (h : Hardware) (v : disk.DiskImage) (check : IdentCheck) (r : Reading) (t : ℕ) (origs zeros : List ℕ) →
@@ -82,7 +82,7 @@ AllRead =
     HasReadPlaces h v check r t origs zeros →
     1 ≤ pages_read t → t ≡ place_count (info_in h v).pages → data_before h v t ≡ length (data_frames h v)
 
--- Over a disk that holds an image of the machine: how many of its pages with data are read, and which.
+-- Over a disk that holds an image of the machine: how many of its data pages are read, and which.
 abbrev pub OwnRead : Type 0
 OwnRead =
     (h : Hardware) (v : disk.DiskImage) (i : Image) (t : ℕ) → Holds h v i → IsSayable i →

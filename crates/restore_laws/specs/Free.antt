@@ -8,11 +8,11 @@ use Rattle.plain_machine.specs.declared.event.Loader.{Loader}
 use Rattle.plain_machine.specs.declared.reply.Reply.TheVariants as reply
 use Rattle.safe_pages.specs.Plan.{need_for}
 
--- a resume needs what a plan takes
+-- a resume needs as many page frames as a plan takes
 abbrev pub PlanTells : Type 0
 PlanTells = (d : ℕ) → need d ≡ need_for d
 
--- The room suffices just where a plan has enough page frames.
+-- The room suffices exactly if a plan has enough page frames.
 abbrev pub RoomSuffices : Type 0
 RoomSuffices =
     (h : Hardware) (dump : Memory) (v : disk.DiskImage) (loader : Loader) →

@@ -1,4 +1,4 @@
--- What a resume over a scripted loader's memory answers at last.
+-- The last reply of a resume over a scripted loader's memory.
 use Rattle.std.specs.Prelude.{◌≡◌, ◌↔◌, ℕ, true, false, length, All, Some, None}
 use Rattle.definitions.specs.Bytes.{IsPage}
 use Rattle.definitions.specs.Disk as disk
@@ -16,7 +16,7 @@ use Rattle.sig_header.specs.AreaKind.{area_kind}
 use Rattle.sig_header.specs.declared.area.Area.{Area}
 use Rattle.sig_header.specs.declared.area.AreaKind.TheVariants.{Swap}
 
--- it has resumed, unless the restored tables are at fault
+-- the last reply is Resumed, unless the restored tables are at fault
 abbrev pub LastResumed : Type 0
 LastResumed =
     (h : Hardware) (dump : Memory) (v : disk.DiskImage) (ranges : Ranges) →
@@ -29,7 +29,7 @@ LastRefused =
     tables_cause h v (restored_in h dump v (loaders.Ranges ranges)) ≡ Some r →
     last_reply h dump v (loaders.Ranges ranges) ≡ r
 
--- The tables are at fault in themselves, or don't fit the area: then its first page frame is named.
+-- Tables at fault in themselves: their page frame is named. If they don't fit the area: the slot table's first one.
 abbrev pub TableAtFault : Type 0
 TableAtFault =
     (h : Hardware) (v : disk.DiskImage) (m : Memory) (f : ℕ) → tables_fault h m ≡ Some f →
@@ -46,7 +46,7 @@ AreaMisfits =
     dump_area_fault h v m ≡ Some why →
     tables_cause h v m ≡ Some (reply.BadTables h.slot_table)
 
--- a usable area fits a memory just where its bad slots are bad in the slot table
+-- a usable area fits a memory exactly if its bad slots are bad in the slot table
 abbrev pub AreaFits : Type 0
 AreaFits =
     (h : Hardware) (v : disk.DiskImage) (m : Memory) (area : Area) → area_fault h v ≡ None →
@@ -59,7 +59,7 @@ BadSetDiffers =
     area_kind (area_block h v) ≡ Swap area →
     has_bad_slots_of h m area ≡ false → dump_area_fault h v m ≡ Some no_swap.BadSet
 
--- one that can't be used fits none
+-- an area that can't be used fits no memory
 abbrev pub AreaUnusable : Type 0
 AreaUnusable =
     (h : Hardware) (v : disk.DiskImage) (m : Memory) (why : NoSwap) → area_fault h v ≡ Some why →

@@ -1,4 +1,4 @@
--- The step at which a reader has read the last number, at which the loader's room is tested.
+-- The step at which a reader has read the last number and the loader's room is tested.
 use Rattle.std.specs.Prelude.{◌≡◌, ◌↔◌, ℕ, ◌+◌, List, Some, None}
 use Rattle.definitions.specs.Disk as disk
 use Rattle.plain_machine.specs.Machine.{Hardware}
@@ -7,11 +7,11 @@ use Rattle.plain_machine.specs.declared.event.IdentCheck.{IdentCheck}
 use Rattle.image_read.specs.Reading.{Reading}
 use Rattle.image_read.specs.Stream.{HasReadPlaces, pages_read, told}
 
--- the numbers aren't all read before place t, and are after it
+-- all numbers are read after place t, but not before it
 abbrev pub IsListedAt : Hardware → disk.DiskImage → ℕ → Type 0
 IsListedAt h v t = (told h v (pages_read t) ≡ None) × (told h v (pages_read (t + 1)) ≡ Some (info_in h v).image_pages)
 
--- that place is the last number page's
+-- place t is that of the last number page exactly if the numbers are listed at it
 abbrev pub ListsAt : Type 0
 ListsAt =
     (h : Hardware) (v : disk.DiskImage) (check : IdentCheck) (r : Reading) (t : ℕ) (origs zeros : List ℕ) →

@@ -19,7 +19,8 @@ use Rattle.plain_machine.specs.declared.no_swap.NoSwap.{NoSwap}
 use Rattle.protocol_laws.specs.LoadRows.{running_with}
 use Rattle.restore_laws.specs.DataPages.{listed_frames}
 
--- All data pages of the disk v wait in these page frames, and those that weren't free to the loader are as it had them.
+-- All data pages of the disk v wait in these page frames, and the page frames that weren't free to the loader are as it
+-- left them.
 pub record AreAllRead (h : Hardware) (dump : Memory) (v : disk.DiskImage) (loader : Loader) (w : Awaiting)
     (origs : List ℕ) (frames : Memory) : Type 0 where
   pub free : w.free ≡ left_free h dump loader
@@ -30,7 +31,7 @@ pub record AreAllRead (h : Hardware) (dump : Memory) (v : disk.DiskImage) (loade
   pub kept : (p : ℕ) → p < top h.zones → (Contains (left_free h dump loader) p → ⊥) →
       frame frames p ≡ loader_frame dump loader p
 
--- brought back, memory is the restored one
+-- once the pages are brought home, memory is the restored one
 abbrev pub RestoredIn : Type 0
 RestoredIn =
     (h : Hardware) (dump : Memory) (v : disk.DiskImage) (loader : Loader) (w : Awaiting) (origs : List ℕ)

@@ -6,7 +6,7 @@ use Rattle.restore_list.specs.declared.RestoreList.TheInside.{Inside}
 abbrev pub kept_list : Inside → Listed
 kept_list l = record { frames = l.frames.now; len = l.len }
 
--- the list frames are distinct page frames, of which there are 65,536 at most, and the entries fit into them
+-- the list frames are distinct page frames, at most 65,536, and the entries fit into them
 pub record IsKept (l : Inside) : Type 0 where
   pub few : length l.frames.now ≤ 65536
   pub room : l.len ≤ 170 * length l.frames.now

@@ -1,4 +1,4 @@
--- The restore list (struct pbe, kernel/power/snapshot.c) as it lies in the list frames: in each frame the number of the
+-- The restore list (struct pbe, kernel/power/snapshot.c) as it lies in the list frames: each holds the number of the
 -- next list frame, then up to 170 entries.
 use Rattle.std.specs.Prelude.{◌≡◌, ◌≤◌, ◌<◌, ℕ, ◌+◌, ◌-◌, ◌*◌, ◌^◌, List, [], ◌∷◌, length, take, drop, flat_map, nat_eq}
 use Rattle.std.specs.Prelude.{nat_lt, slice_index, if◌then◌else◌, All}
@@ -37,7 +37,7 @@ pub record IsEntry (e : Entry) : Type 0 where
   pub to : e.1 < 2 ^ 32
   pub count : e.2 < 2 ^ 32
 
--- Memory holds this restore list with these entries: each list frame is just its page.
+-- Memory holds this restore list with these entries: each list frame is exactly its page.
 pub record LiesIn (memory : List (List ℕ)) (listed : Listed) (entries : List Entry) : Type 0 where
   pub within : All (λ p. p < length memory) listed.frames
   pub distinct : IsDistinct nat_eq listed.frames

@@ -13,10 +13,10 @@ use frame_arena::Frames;
 use safe_pages::Placement;
 use std::marker::Model;
 
-/// A list frame has this many entries.
+/// The entries of a list frame.
 const ENTRIES: u32 = 170;
 
-/// The word of the last list frame that names no next one.
+/// The word of the last list frame, which names no next one.
 const END: u64 = u64::MAX;
 
 /// A restore list in the list frames of a placement. An entry is a run (from, to, count): the pages of `count` page
@@ -77,14 +77,14 @@ impl<'a> RestoreList<'a> {
         self.len += 1;
     }
 
-    /// Entry `j`, from 0.
+    /// Returns entry `j`, from 0.
     pub fn entry(&self, frames: &Frames, j: u32) -> (u32, u32, u32)
         requires within { All (λ p. p < length frames.now) self.now.frames }
         requires listed { j < self.now.len }
         ensures { (entries : List Entry) → LiesIn frames.now self.now entries → slice_get entries j ≡ Some result }
     {
         let (p, at) = place(self.frames, j);
-        // The numbers are below 2^32, so the low halves of their words tell them.
+        // The numbers are below 2^32, so each is the low half of its word.
         (
             frames.u32_at(p, 8 * at),
             frames.u32_at(p, 8 * at + 8),
@@ -92,7 +92,7 @@ impl<'a> RestoreList<'a> {
         )
     }
 
-    /// How many entries there are.
+    /// Returns how many entries there are.
     pub fn len(&self) -> u32
         ensures { result ≡ self.now.len }
     {
@@ -100,7 +100,7 @@ impl<'a> RestoreList<'a> {
     }
 }
 
-/// The list frame of entry `j`, and its first word there.
+/// Returns the list frame of entry `j`, and the index of the entry's first word there.
 fn place(list: &[u32], j: u32) -> (u32, usize)
     requires { j < 170 * length list.now }
     ensures frame { result.0 ≡ slice_index list.now (j / 170) }
@@ -109,7 +109,7 @@ fn place(list: &[u32], j: u32) -> (u32, usize)
     (list[(j / ENTRIES) as usize], 1 + 3 * (j % ENTRIES) as usize)
 }
 
-/// The word that names the list frame after the i-th.
+/// Returns the word that names the list frame after the i-th.
 fn next_frame(list: &[u32], i: usize) -> u64
     requires { i < length list.now }
     ensures { result ≡ next_frame list.now i }

@@ -23,7 +23,7 @@ header_fault header =
     if not (pointwise nat_eq (sig_of header) image_signature) then Some reply.NoImage
     else (if not (is_set (flags_of header) 2) then Some (reply.Compressed (flags_of header)) else None)
 
--- the mark of a block that is an image's
+-- the mark of a header block, if it carries one
 abbrev pub mark_in : AreaKind → Option Mark
 mark_in (Image mark) = Some mark
 mark_in Old = None
@@ -31,13 +31,13 @@ mark_in (Other sig) = None
 mark_in (BadArea why) = None
 mark_in (Swap area) = None
 
--- why an image that has this mark isn't read further: it was made under another signature than the machine's
+-- why an image with this mark isn't read further: it was made under a hardware signature other than the machine's
 abbrev pub signature_fault : Hardware → Mark → Option Reply
 signature_fault h mark =
     if is_set mark.flags 8 && not (mark.hw_sig == h.hw_sig) then Some (reply.HwMismatch mark.hw_sig h.hw_sig) else None
 
--- A reader of the chain that a mark names, or why there is none, over each disk of so many blocks whose header has that
--- mark.
+-- A reader of the chain that a mark names, or the reason why there is none, for each disk of `blocks` blocks whose
+-- header block has that mark.
 abbrev pub Opens : Hardware → ℕ → Mark → Result Reading Reply → Type 0
 Opens h blocks mark result =
     (v : disk.DiskImage) → mark ≡ mark_of (header_of h v) → blocks ≡ blocks_of v →

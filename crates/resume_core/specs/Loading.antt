@@ -1,4 +1,4 @@
--- A resume, and what a machine shows while it is at it.
+-- A resume, and what a machine shows during one.
 use Rattle.std.specs.Prelude.{◌≡◌, ℕ, ⊤, false, List, [], Some}
 use Rattle.std.specs.List.{zip}
 use Rattle.definitions.specs.Disk as disk
@@ -17,7 +17,7 @@ use Rattle.resume_core.specs.declared.load.Load.{Load}
 use Rattle.resume_core.specs.declared.load.Stage.{Stage}
 use Rattle.resume_core.specs.declared.load.Stage.TheVariants as stage
 
--- what a machine is at, by the step that is next
+-- the machine's activity at each stage
 abbrev pub activity_at : Stage → Activity
 activity_at stage.Rest = rests
 activity_at stage.Runs = runs
@@ -31,7 +31,7 @@ activity_at (stage.Read chain) = loads chain.done
 abbrev pub activity_of : Load → Activity
 activity_of load = activity_at load.stage
 
--- the header block as it was found, once it was
+-- the header block as it was found, while it is kept
 abbrev pub header_at : Stage → List ℕ
 header_at stage.Rest = []
 header_at stage.Runs = []
@@ -42,19 +42,19 @@ header_at (stage.SyncBack found) = found.header
 header_at (stage.List chain) = chain.header
 header_at (stage.Read chain) = chain.header
 
--- what a machine is at once an image is resumed: after a dump's loader it is off
+-- the machine's activity after an image is resumed: after a dump's loader it is off
 abbrev pub activity_resumed : Loader → Activity
 activity_resumed (loader.Ranges ranges) = runs
 activity_resumed loader.Table = rests
 
--- what it is at after this reply to a step or to the begin of a resume
+-- the machine's activity after this reply to a step or to the begin of a resume
 abbrev pub activity_told : Loader → Reply → Activity
 activity_told loader (reply.Loading k) = loads k
 activity_told loader (reply.Resumed n) = activity_resumed loader
 activity_told loader _ = rests
 
--- What the second step of a resume says of an image on the disk v: it is there, or it isn't. Where the disk failed it
--- says nothing.
+-- What the reply to the second step of a resume says of the disk v: it is marked, or it isn't. If the read failed, the
+-- reply says nothing of it.
 abbrev pub FindsMark : Hardware → Reply → disk.DiskImage → Type 0
 FindsMark h (reply.Loading k) v = Marked h v
 FindsMark h (reply.Compressed flags) v = Marked h v
@@ -62,7 +62,7 @@ FindsMark h reply.NoImage v = Marked h v → ⊥
 FindsMark h (reply.ReadFault left) v = ⊤
 FindsMark h _ v = ⊥
 
--- what is shown: the header block that was found, the loader and the check, and the pages that wait, by page frame
+-- what is shown: the header block found, the loader and the check, and the waiting pages by page frame
 abbrev pub shown_by : Machine → Memory → Load → WorldView
 shown_by machine frames load = record {
   activity = activity_of load;
@@ -77,7 +77,7 @@ shown_by machine frames load = record {
   loaded = zip load.waiting.originals (waiting_pages frames load.waiting);
 }
 
--- over a machine's zones, and at nothing
+-- over the zones of a machine, with no resume under way
 pub record IsIdle (zones : List (ℕ × ℕ)) (load : Load) : Type 0 where
   pub idle : load.stage ≡ stage.Rest
   pub origs : load.origs.zones ≡ zones

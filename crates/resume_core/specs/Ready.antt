@@ -14,28 +14,28 @@ use Rattle.resume_core.specs.declared.load.Load.{Load}
 use Rattle.resume_core.specs.declared.load.Stage.{Stage}
 use Rattle.resume_core.specs.declared.load.Stage.TheVariants as stage
 
--- something is under way
+-- a resume is under way
 abbrev pub is_busy_at : Stage → Type 0
 is_busy_at stage.Rest = ⊥
 is_busy_at stage.Runs = ⊥
 is_busy_at _ = ⊤
 
--- the header block is written taken back next
+-- the next step writes the header block with the mark taken back
 abbrev pub takes_back_at : Stage → Type 0
 takes_back_at (stage.TakeBack found) = ⊤
 takes_back_at _ = ⊥
 
--- that is synced next
+-- the next step syncs the cleared mark
 abbrev pub syncs_back_at : Stage → Type 0
 syncs_back_at (stage.SyncBack found) = ⊤
 syncs_back_at _ = ⊥
 
--- a map, the info page or a number page is read next
+-- the next step reads a map, the info page or a number page
 abbrev pub lists_at : Stage → Type 0
 lists_at (stage.List chain) = ⊤
 lists_at _ = ⊥
 
--- a map or a saved page is read next
+-- the next step reads a map or a saved page
 abbrev pub reads_at : Stage → Type 0
 reads_at (stage.Read chain) = ⊤
 reads_at _ = ⊥
@@ -43,7 +43,7 @@ reads_at _ = ⊥
 abbrev pub IsBusy : Load → Type 0
 IsBusy load = is_busy_at load.stage
 
--- a reader that goes on, on a disk of so many blocks
+-- a reader that can go on, over a disk of `blocks` blocks
 pub record CanRead (blocks : ℕ) (reader : Reading) (origs zeros : List ℕ) : Type 0 where
   pub ready : IsReady reader origs zeros
   pub within : reader.blocks ≤ blocks
@@ -56,8 +56,8 @@ NoneListed load = (load.origs.members ≡ []) × (load.zeros.members ≡ [])
 abbrev pub IsUsable : Machine → Type 0
 IsUsable machine = IfOk machine.area (λ area. fit_fault machine.hw machine.blocks area ≡ None)
 
--- what a machine has that runs on after a resume: its tables are nobody's, nothing is held, and no task has an
--- unfinished operation
+-- a machine that runs on after a resume: its tables are nobody's, nothing is held, and no task has an unfinished
+-- operation
 pub record RunsOn (machine : Machine) (frames : Memory) (runs : SlotRuns) : Type 0 where
   pub area : IsOk machine.area
   pub usable : IsUsable machine
@@ -66,7 +66,7 @@ pub record RunsOn (machine : Machine) (frames : Memory) (runs : SlotRuns) : Type
   pub reserved : AreReserved machine.hw frames
   pub idle : (t : ℕ) → flights_in machine.flights t ≡ None
 
--- what the step that is next needs, and what is there after the last one
+-- what the next step needs, and what holds after the last one
 abbrev pub CanMake : Stage → Machine → Memory → SlotRuns → Load → Type 0
 CanMake stage.Runs machine frames runs load = RunsOn machine frames runs
 CanMake stage.Rest machine frames runs load = ⊤
@@ -81,8 +81,8 @@ CanMake (stage.Read chain) machine frames runs load =
     CanRead machine.blocks chain.reader load.origs.members load.zeros.members × (4 ≤ chain.done)
     × (load.waiting.placement.ready ≡ true)
 
--- A resume over this machine: memory has its page frames, the runs have room for its slots, and the sets are over its
--- zones.
+-- A resume on this machine: memory has the machine's page frames, the runs have room for its slots, and the sets are
+-- over its zones.
 pub record IsOverMachine (machine : Machine) (frames : Memory) (runs : SlotRuns) (load : Load) : Type 0 where
   pub hardware : IsHardware machine.hw
   pub few : machine.blocks < 2 ^ 32
@@ -104,7 +104,7 @@ pub record CanStep (machine : Machine) (frames : Memory) (runs : SlotRuns) (load
   pub over : IsOverMachine machine frames runs load
   pub next : CanMake load.stage machine frames runs load
 
--- the area and what is held may change
+-- the hardware and the disk's number of blocks stay the same
 pub record IsSameMachine (old new : Machine) : Type 0 where
   pub hw : new.hw ≡ old.hw
   pub blocks : new.blocks ≡ old.blocks

@@ -6,7 +6,7 @@ use Rattle.plain_machine.specs.Loader.{restored}
 use Rattle.plain_machine.specs.State.{Load as Resume, Found, not_yet, found_own, found_other}
 use Rattle.plain_machine.specs.Trace.{restored_in}
 
--- Restored, of the image that was found: an own one's pages, or those of another's on the disk v
+-- Restored, from the image that was found: the pages of an own image, or those of another's on the disk v
 abbrev pub restored_found : Hardware → Resume → Found → Memory
 restored_found h l not_yet = []
 restored_found h l (found_own i) = restored h l.dump l.loader i

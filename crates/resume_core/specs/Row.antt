@@ -1,4 +1,4 @@
--- The rows of the plain machine that a resume makes.
+-- The rows of the plain machine that a resume implements.
 use Rattle.std.specs.Prelude.{◌≡◌, ◌<◌, ℕ, ◌+◌, ◌-◌, [], Contains, List, Option, Some, None, true, Ok, ⊤}
 use Rattle.definitions.specs.Disk as disk
 use Rattle.definitions.specs.Tables.{frame}
@@ -44,18 +44,18 @@ use Rattle.resume_core.specs.declared.load.OpenChain.{OpenChain}
 use Rattle.resume_core.specs.declared.load.Stage.{Stage}
 use Rattle.resume_core.specs.declared.load.Stage.TheVariants as stage
 
--- The loader is that of the resume, and what is free to it is free to the pages that wait.
+-- The loader is the resume's, and the page frames free to it are those that pages can wait in.
 pub record HasLoader (h : Hardware) (load : Load) (l : Resume) : Type 0 where
   pub loader : load.loader ≡ l.loader
   pub free : load.waiting.free ≡ left_free h l.dump l.loader
   pub check : load.check ≡ l.check
 
--- a dump's loader is the memory that is kept
+-- with a dump's loader, memory is the one that was kept
 abbrev pub HasLoaderMemory : Loader → Memory → WorldView → Type 0
 HasLoaderMemory (loader.Ranges ranges) frames shown = ⊤
 HasLoaderMemory loader.Table frames shown = (shown.keeps_dump ≡ true) × (shown.frames ≡ frames)
 
--- the area of a header block that is one's
+-- the area that a header block describes, if it is an unmarked one
 abbrev pub swap_area : AreaKind → Option Area
 swap_area (Image mark) = None
 swap_area Old = None
@@ -63,8 +63,8 @@ swap_area (Other sig) = None
 swap_area (BadArea why) = None
 swap_area (Swap area) = Some area
 
--- The image was found on the disk v, and the disk with this content reads like it but for block(0), which taken back
--- says the same area.
+-- The image was found on the disk v. The disk with this content reads like v except for block(0), which, taken back,
+-- describes the same area.
 pub record HasFound (machine : Machine) (header : List ℕ) (c : disk.Content) (l : Resume)
     (v : disk.DiskImage) : Type 0 where
   pub found : IsFoundIn machine.hw l v
@@ -79,7 +79,7 @@ pub record HasFound (machine : Machine) (header : List ℕ) (c : disk.Content) (
 abbrev pub HasReader : Hardware → disk.DiskImage → Reading → Load → ℕ → Type 0
 HasReader h v reader load t = stream.HasReadPlaces h v load.check reader t load.origs.members load.zeros.members
 
--- The pages with data among them wait for the page frames that they were saved for.
+-- The data pages among those places wait for the page frames that they were saved from.
 pub record HavePlaces (h : Hardware) (v : disk.DiskImage) (frames : Memory) (waiting : Awaiting) (t : ℕ) : Type 0 where
   pub listed : told h v (pages_read t) ≡ Some (info_in h v).image_pages
   pub originals : waiting.originals ≡ data_frames h v
@@ -90,14 +90,14 @@ pub record HavePlaces (h : Hardware) (v : disk.DiskImage) (frames : Memory) (wai
 abbrev pub NoneWaits : Load → Type 0
 NoneWaits load = load.waiting.originals ≡ []
 
--- the image was found, and nothing of it is read
+-- the image was found, and nothing else of it is read yet
 abbrev pub KnowsHeader : Machine → Load → FoundHeader → disk.Content → Resume → ℕ → Type 0
 KnowsHeader machine load found c l k =
     (v : disk.DiskImage) × HasFound machine found.header c l v × HaveGoneOn machine.hw l v k × (load.origs.members ≡ [])
     × (load.zeros.members ≡ []) × NoneWaits load
     × (found.mark ≡ mark_of (header_of machine.hw v))
 
--- what is known by the step that is next: what was found, and how far it is read
+-- what is known at each stage: what was found, and how far it is read
 abbrev pub KnowsAt : Stage → Machine → Memory → Load → disk.Content → Resume → ℕ → Type 0
 KnowsAt (stage.TakeBack found) machine frames load c l k = KnowsHeader machine load found c l k
 KnowsAt (stage.SyncBack found) machine frames load c l k = KnowsHeader machine load found c l k
@@ -112,7 +112,7 @@ KnowsAt (stage.Read chain) machine frames load c l k =
     × HasReader machine.hw v chain.reader load (k - 4) × HavePlaces machine.hw v frames load.waiting (k - 4)
 KnowsAt _ machine frames load c l k = (load.origs.members ≡ []) × (load.zeros.members ≡ []) × NoneWaits load
 
--- The resume is the one that a state is at. (Loader and check are shown.)
+-- The resume is the one of the state. (Its loader and check are part of what is shown.)
 pub record IsOf (machine : Machine) (frames : Memory) (load : Load) (c : disk.Content) (l : Resume)
     (k : ℕ) : Type 0 where
   pub free : load.waiting.free ≡ left_free machine.hw l.dump l.loader
@@ -129,13 +129,13 @@ IsOfState machine frames load c (settling a k) = ⊤
 IsOfState machine frames load c (waking i held a k) = ⊤
 IsOfState machine frames load c (asleep i held a) = ⊤
 
--- what a machine shows while it resumes, and its disk, stand for a state, whose resume it is at
+-- What the machine shows during a resume stands, with its disk, for state a, and the resume is that of a.
 pub record ResumeStandsFor (machine : Machine) (frames : Memory) (load : Load) (c : disk.Content)
     (a : State) : Type 0 where
   pub stands : Stands machine.hw (shown_by machine frames load) c a
   pub resume : IsOfState machine frames load c a
 
--- a machine that runs has the area that the header block says
+-- a running machine has the area that the header block describes
 abbrev pub RunsOverArea : Machine → disk.Content → State → Type 0
 RunsOverArea machine c (on a) =
     (area : Area) × (machine.area ≡ Ok area)
@@ -149,8 +149,8 @@ RunsOverArea machine c (waking i held a k) = ⊤
 RunsOverArea machine c (loading load k) = ⊤
 RunsOverArea machine c (asleep i held a) = ⊤
 
--- A resume that has ended leaves just Restored, free page frames too, after either loader; and after a scripted one the
--- area that the header block says.
+-- A resume that has ended leaves exactly Restored, free page frames included, after either loader; and after a scripted
+-- one the area that the header block describes.
 pub record LeavesRestored (machine : Machine) (frames : Memory) (c : disk.Content) (l : Resume)
     (b : State) : Type 0 where
   pub memory : frames ≡ restored_by machine.hw l
@@ -160,19 +160,19 @@ abbrev pub HasEnded : Machine → Memory → disk.Content → Reply → State �
 HasEnded machine frames c (reply.Resumed n) (loading l k) b = LeavesRestored machine frames c l b
 HasEnded machine frames c _ a b = ⊤
 
--- What a machine shows after this reply to a step of a resume, from state a, and its disk, stand for a state; where the
--- resume has ended memory is as it says.
+-- After this reply to a resume's step from state a, what the machine shows stands, with its disk, for state b. If the
+-- resume has ended, memory is the restored one.
 pub record StandsAfter (machine : Machine) (frames : Memory) (load : Load) (r : Reply) (a : State) (c : disk.Content)
     (b : State) : Type 0 where
   pub stands : Stands machine.hw (shown_by machine frames load) c b
   pub resume : IsOfState machine frames load c b
   pub ended : HasEnded machine frames c r a b
 
--- what the state goes on to
+-- state a goes on to state b
 abbrev pub GoesOn : Machine → Memory → Load → Event → Reply → disk.Content → disk.Content → State → State → Type 0
 GoesOn machine frames load e r c c' a b = rows.StepsTo machine.hw (StandsAfter machine frames load r a) e r c c' a b
 
--- the row of an event over these contents of the disk, and over a disk that tells its content
+-- the row of an event for these contents of the disk, and for a disk that tells its content
 abbrev pub Simulates : Machine → Memory → Load → Machine → Memory → Load → Event → Reply → disk.Content →
     disk.Content → Type 0
 Simulates machine frames load machine' frames' load' e r c c' =
@@ -192,8 +192,8 @@ BeginsRow machine frames frames' load' loader check r =
     Stands machine.hw shown c (off held kept) →
     (b : State) × GoesOn machine frames' load' (event.Resume loader check) r c c (off held kept) b
 
--- A block was read at the step after k others, and neither it nor the block after it is at fault. What the machine
--- showed before stood for the state.
+-- Step k + 1 has read a block, and neither that block nor the one after it is at fault. What the machine showed before
+-- stood for the state.
 pub record HasRead (machine : Machine) (frames : Memory) (load : Load) (chain : OpenChain) (c : disk.Content)
     (l : Resume) (v : disk.DiskImage) (k : ℕ) : Type 0 where
   pub shown : WorldView
@@ -207,26 +207,26 @@ pub record HasRead (machine : Machine) (frames : Memory) (load : Load) (chain : 
       frame frames p ≡ loader_frame l.dump l.loader p
   pub done : chain.done ≡ k
 
--- where the reply leads, from the state that is at that step
+-- where the reply leads from the state after k steps
 abbrev pub LeadsOn : Machine → Memory → Load → Reply → disk.Content → Resume → ℕ → Type 0
 LeadsOn machine' frames' load' r c l k =
     (b : State) × GoesOn machine' frames' load' (event.Step actor.Core) r c c (loading l k) b
 
--- of the page frames that the image names, not all were listed before; the reader tells whether they are now
+-- before this step not all page frames of the image were listed; the reader says whether they are now
 abbrev pub ListsOn : Machine → Memory → Load → OpenChain → Machine → Memory → Load → Reply → Type 0
 ListsOn machine frames load chain machine' frames' load' r =
     (c : disk.Content) (l : Resume) (v : disk.DiskImage) (k : ℕ) → HasRead machine frames load chain c l v k →
     told machine.hw v (pages_read (k - 4)) ≡ None → NoneWaits load →
     LeadsOn machine' frames' load' r c l k
 
--- all are listed, and the pages read wait; the machine may have had room to test at this step, which it did
+-- all page frames are listed, and the pages read wait; the loader's room suffices, if it is tested at this step
 abbrev pub ReadsOn : Machine → Memory → Load → OpenChain → Machine → Memory → Load → Reply → Type 0
 ReadsOn machine frames load chain machine' frames' load' r =
     (c : disk.Content) (l : Resume) (v : disk.DiskImage) (k : ℕ) → HasRead machine frames load chain c l v k →
     HavePlaces machine.hw v frames load.waiting (k - 4 + 1) →
     want_cause machine.hw l.dump v l.loader (place (k - 4)) ≡ None → LeadsOn machine' frames' load' r c l k
 
--- at the last step
+-- the same at the last step
 abbrev pub EndsOn : Machine → Memory → Load → OpenChain → Machine → Memory → Load → Reply → Type 0
 EndsOn machine frames load chain machine' frames' load' r =
     (c : disk.Content) (l : Resume) (v : disk.DiskImage) (k : ℕ) → HasRead machine frames load chain c l v k →

@@ -1,11 +1,11 @@
--- How many steps a resume has left at most. Each step leaves fewer, over any disk, so a resume ends.
+-- An upper bound for the steps left in a resume. Each step leaves fewer, over any disk, so a resume ends.
 use Rattle.std.specs.Prelude.{◌+◌, ℕ}
 use Rattle.image_read.specs.Reading.{places_left}
 use Rattle.resume_core.specs.declared.load.Load.{Load}
 use Rattle.resume_core.specs.declared.load.Stage.{Stage}
 use Rattle.resume_core.specs.declared.load.Stage.TheVariants as stage
 
--- by the step that is next: a chain has 65,794 blocks at most, and the stages up to it are a step each
+-- by stage: a chain has at most 65,794 blocks, and each stage before it takes one step
 abbrev pub loading_steps_left_at : Stage → ℕ
 loading_steps_left_at stage.Rest = 0
 loading_steps_left_at stage.Runs = 0

@@ -21,7 +21,7 @@ use sig_header::{Mark, SF_HW_SIG, SF_SKIPS_ZEROS, take_back};
 use std::mem::replace;
 use swap_slots::FreeRuns;
 
-// The header block taken back, before anything else of the image is read (swsusp_check, kernel/power/swap.c).
+// Taking the mark back, before anything else of the image is read (swsusp_check, kernel/power/swap.c).
 impl Load {
     ghost use Rattle.plain_machine.specs.declared.event.Event.TheVariants as event;
     ghost use Rattle.plain_machine.specs.declared.event.Actor.TheVariants as actor;
@@ -30,7 +30,7 @@ impl Load {
     ghost use Rattle.resume_core.specs.StepsLeft.{loading_steps_left};
     ghost use Rattle.resume_core.specs.Row.{SimulatesWhereTold};
 
-    /// Writes the header block taken back.
+    /// Writes the header block with the mark taken back.
     pub(crate) fn take_back<D: Disk>(
         &mut self,
         machine: &Machine,
@@ -65,7 +65,7 @@ impl Load {
         }
     }
 
-    /// Syncs that: no image is there any more. Then the chain must begin at a block of the area.
+    /// Syncs the cleared mark. From here on no image exists. Then opens the chain, which must begin in the area.
     pub(crate) fn sync_back<D: Disk>(
         &mut self,
         machine: &Machine,
@@ -106,7 +106,8 @@ impl Load {
     }
 }
 
-/// A reader of the marked image, where it was made under the machine's signature and its chain begins in the area.
+/// Returns a reader of the marked image, or refuses the image. It must have been made under the machine's hardware
+/// signature, and its chain must begin in the area.
 fn reader_of(hw: &Hardware, blocks: u32, mark: &Mark) -> Result<Reader, Reply>
     ensures opens { Opens hw.now blocks mark.now result }
     ensures ready { IfOk result (λ r. IsReady r [] []) }
@@ -125,7 +126,7 @@ fn reader_of(hw: &Hardware, blocks: u32, mark: &Mark) -> Result<Reader, Reply>
     }
 }
 
-/// Why the image can't be read where it was made under another signature than the machine's.
+/// Returns why the image can't be read, if it was made under a hardware signature other than the machine's.
 fn other_signature(hw: &Hardware, mark: &Mark) -> Option<Reply>
     ensures { result ≡ signature_fault hw.now mark.now }
 {

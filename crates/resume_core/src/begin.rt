@@ -17,7 +17,7 @@ use plain_machine::{IdentCheck, Loader, Ranges, Reply};
 use prealloc::pick;
 use saveable::{View, count_free};
 
-/// What a scripted loader has in each byte of its memory (own).
+/// The value of each byte that a scripted loader fills memory with (own).
 const FILL: u8 = 165;
 
 // The begin of a resume.
@@ -28,8 +28,8 @@ impl Load {
     ghost use Rattle.resume_core.specs.Ready.{CanBegin, CanStep};
     ghost use Rattle.resume_core.specs.Row.{BeginsRow};
 
-    /// Begins, over a machine that is off. A scripted loader fills each page frame that isn't free to it; a dump's
-    /// loader is the memory that is there.
+    /// Begins a resume on a machine that is off. A scripted loader fills each page frame that isn't free to it; for a
+    /// dump's loader, memory stays as it is.
     pub fn begin(
         &mut self,
         machine: &Machine,
@@ -47,7 +47,8 @@ impl Load {
         ensures no_fault { TellsNewFault result → ⊥ }
     {
         machine.blocks_fit();
-        // Until the first number page is read the set of originals has room for the page frames free to the loader.
+        // `origs` isn't used until the first number page is read, so it can hold the page frames free to the loader
+        // here.
         make_loader(frames, &mut self.origs, &machine.hw, &loader);
         self.waiting.begin(&self.origs);
         self.origs.clear_all();
@@ -59,7 +60,7 @@ impl Load {
     }
 }
 
-/// Makes the loader, and the set that of the page frames that are free to it.
+/// Sets up the loader's memory and fills `set` with the frames it leaves free.
 fn make_loader(frames: &mut Frames, set: &mut Bitmap, hw: &Hardware, loader: &Loader)
     requires size { length frames.old ≡ top hw.now.zones }
     requires zones { set.old.zones ≡ hw.now.zones }
@@ -78,7 +79,7 @@ fn make_loader(frames: &mut Frames, set: &mut Bitmap, hw: &Hardware, loader: &Lo
     }
 }
 
-/// Makes the set that of the page frames whose entry in the frame table is free.
+/// Sets `set` to the page frames that are free according to the frame table.
 fn mark_unused(set: &mut Bitmap, frames: &Frames, hw: &Hardware)
     requires size { length frames.now ≡ top hw.now.zones }
     requires zones { set.old.zones ≡ hw.now.zones }
@@ -93,7 +94,7 @@ fn mark_unused(set: &mut Bitmap, frames: &Frames, hw: &Hardware)
     pick(&view, count_free(&view), set);
 }
 
-/// Makes the set that of the page frames that are free to a scripted loader.
+/// Sets `set` to the page frames that are free to a scripted loader.
 fn mark_left_free(set: &mut Bitmap, hw: &Hardware, ranges: &Ranges)
     requires { set.old.zones ≡ hw.now.zones }
     ensures set { set.new ≡ record set.old { members = left_free hw.now [] (loader.Ranges ranges.now) } }
@@ -104,7 +105,7 @@ fn mark_left_free(set: &mut Bitmap, hw: &Hardware, ranges: &Ranges)
     clear_regions(set, hw);
 }
 
-/// Takes the page frames of the ranges out of the set.
+/// Removes the page frames of the ranges from the set.
 fn clear_ranges(set: &mut Bitmap, ranges: &Ranges)
     requires { IsFrameSet set.old }
     ensures { set.new ≡ record set.old { members = filter (λ p. not (is_in_ranges ranges.now p)) set.old.members } }
@@ -114,7 +115,7 @@ fn clear_ranges(set: &mut Bitmap, ranges: &Ranges)
     }
 }
 
-/// The ranges up to their count.
+/// Returns the ranges in use: the first `count` of the list.
 fn listed(ranges: &Ranges) -> &[(u32, u32)]
     ensures { result.now ≡ take ranges.now.count ranges.now.list }
 {
@@ -122,7 +123,7 @@ fn listed(ranges: &Ranges) -> &[(u32, u32)]
     all.get(..ranges.count as usize).unwrap_or(all)
 }
 
-/// Takes the page frames of regions with flags out of the set.
+/// Removes the page frames of regions with flags from the set.
 fn clear_regions(set: &mut Bitmap, hw: &Hardware)
     requires { IsFrameSet set.old }
     ensures set { set.new ≡ record set.old { members = filter (λ p. not (is_in_regions hw.now p)) set.old.members } }
@@ -135,7 +136,7 @@ fn clear_regions(set: &mut Bitmap, hw: &Hardware)
     }
 }
 
-/// Takes the page frames from `first` to `last`, both included, out of the set.
+/// Removes the page frames from `first` to `last`, both included, from the set.
 fn clear_between(set: &mut Bitmap, first: u32, last: u32)
     requires { IsFrameSet set.old }
     ensures { set.new ≡ record set.old {

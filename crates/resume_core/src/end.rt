@@ -31,8 +31,8 @@ impl Load {
     ghost use Rattle.resume_core.specs.StepsLeft.{loading_steps_left};
     ghost use Rattle.resume_core.specs.Row.{EndsOn};
 
-    /// Brings the pages home. After a scripted loader the machine runs, where the tables fit it and the area; after a
-    /// dump's loader it is off. No page is missing here, since the reader has tested the stream's number of pages by
+    /// Brings the pages home. After a scripted loader the machine runs, if the tables fit it and the area; after a
+    /// dump's loader it is off. No page is missing here: the reader has checked the stream's number of pages against
     /// the numbers that it names.
     pub(crate) fn end(
         &mut self,
@@ -77,8 +77,8 @@ impl Load {
     }
 }
 
-/// The area of the header block taken back, where the restored tables fit the machine and it. Else a table frame at
-/// fault.
+/// Returns the area of the header block with its mark taken back, if the restored tables fit the machine and the area.
+/// Otherwise returns a page frame of a table at fault.
 fn restored_area(hw: &Hardware, blocks: u32, frames: &Frames, header: &Page) -> Result<Area, u32>
     requires { length frames.now ≡ top hw.now.zones }
     ensures fits { IfOk result (λ area. fit_fault hw.now blocks area ≡ None) }

@@ -28,7 +28,7 @@ impl Load {
     ghost use Rattle.resume_core.specs.StepsLeft.{loading_steps_left};
     ghost use Rattle.resume_core.specs.Row.{SimulatesWhereTold};
 
-    /// Syncs: after it the disk has one content.
+    /// Syncs the disk, which has a single possible content afterwards.
     pub(crate) fn sync_first<D: Disk>(
         &mut self,
         machine: &Machine,
@@ -57,8 +57,8 @@ impl Load {
         }
     }
 
-    /// Reads the header block, which must carry the mark of an image that isn't compressed. One that isn't below the
-    /// disk's blocks counts as zeros, and isn't read.
+    /// Reads the header block, which must carry the mark of an image that isn't compressed. If the block lies past the
+    /// end of the disk, it counts as zeros and isn't read.
     pub(crate) fn find<D: Disk>(
         &mut self,
         machine: &Machine,
@@ -97,7 +97,7 @@ impl Load {
         }
     }
 
-    /// The resume ends here, and the machine is off.
+    /// Ends the resume with the reply `why`. The machine is off.
     pub(crate) fn stop(&mut self, why: Reply) -> Reply
         ensures load { self.new ≡ record self.old { stage = stage.Rest } }
         ensures reply { result ≡ why }
@@ -107,7 +107,7 @@ impl Load {
     }
 }
 
-/// The mark of an image that can be read, or why there is none.
+/// Returns the mark of an image that can be read, or the reply that says why there is none.
 fn found(header: &Page) -> Result<Mark, Reply>
     ensures found { IfOk result (λ mark. (header_fault header.now ≡ None) × (mark ≡ mark_of header.now)) }
     ensures stops { IfErr result (λ why. TellsNewFault why → ⊥) }
@@ -126,7 +126,7 @@ fn found(header: &Page) -> Result<Mark, Reply>
     }
 }
 
-/// The mark of a header block that has one.
+/// Returns the mark of a header block that carries one.
 fn mark_in(header: &Page) -> Option<Mark>
     ensures { result ≡ mark_in (area_kind header.now) }
 {

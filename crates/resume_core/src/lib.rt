@@ -1,5 +1,5 @@
-//! Resuming: the header block is found marked and written taken back, then the image is read into page frames that are
-//! free to the loader, and brought home (software_resume, kernel/power/hibernate.c; swsusp_check and swsusp_read,
+//! Resuming: finds the mark in the header block and takes it back, reads the image into page frames that are free to
+//! the loader, and brings the pages home (software_resume, kernel/power/hibernate.c; swsusp_check and swsusp_read,
 //! kernel/power/swap.c).
 #![tactic(auto)]
 

@@ -68,14 +68,15 @@ impl Load {
                     None => chain.go_on(),
                     Some(_) => self.begin_reads(machine, frames, runs),
                 },
-                // Each number page was read by then.
+                // By then every number page has been read.
                 ReadStep::Done => self.begin_reads(machine, frames, runs),
             },
             _ => unreachable!(),
         }
     }
 
-    /// Where the last number page was accepted and the block after it is at fault, too little room comes first.
+    /// Ends the resume at a block at fault. If all numbers are listed by then, too little room for the pages comes
+    /// first.
     fn refuse_listing(&mut self, listed: Option<u32>, cause: Cause) -> Reply
         requires zones { self.old.origs.zones ≡ self.old.waiting.zones }
         ensures reply { result ≡ refusal_behind listed (length self.old.waiting.free)
@@ -95,7 +96,7 @@ impl Load {
         }
     }
 
-    /// Begins with the pages, with a place for each.
+    /// Begins to read the saved pages, once a place is planned for each. Stops if there is too little room.
     fn begin_reads(
         &mut self,
         machine: &mut Machine,
@@ -128,7 +129,7 @@ impl Load {
         }
     }
 
-    /// Plans where the pages to come wait.
+    /// Plans the page frames in which the pages to come wait, or refuses if too few are free.
     fn plan(&mut self) -> Result<(), Reply>
         requires { self.old.origs.zones ≡ self.old.waiting.zones }
         ensures refused { IfErr result (λ why. room_refusal (length self.old.waiting.free)
@@ -158,7 +159,7 @@ impl Load {
 impl OpenChain {
     ghost use Rattle.plain_machine.specs.declared.reply.Reply.TheVariants as reply;
 
-    /// A block was read, and another one is next.
+    /// Counts a block that was read, and returns the reply with which the resume goes on.
     pub(crate) fn go_on(&mut self) -> Reply
         ensures counted { self.old.done + 1 < 2 ^ 32 → self.new.done ≡ self.old.done + 1 }
         ensures more { self.old.done ≤ self.new.done }
@@ -170,7 +171,7 @@ impl OpenChain {
     }
 }
 
-/// What an image must be of to be resumed here.
+/// Returns what an image must match to be resumed on this machine.
 pub(crate) fn expected_of(machine: &Machine, check: IdentCheck) -> Expected<'_>
     ensures zones { result.zones.now ≡ machine.now.hw.zones }
     ensures ident { Compares machine.now.hw check (option_copied result.ident) }

@@ -29,39 +29,39 @@ pub(crate) struct OpenChain {
     /// The header block as it was found.
     pub(crate) header: Page,
     pub(crate) reader: Reader,
-    /// How many steps of the resume are made.
+    /// The number of steps made so far.
     pub(crate) done: u32,
 }
 
-/// What is done next, and what that reads.
+/// The step to make next, with the data that it needs.
 #[derive(Drop)]
 pub(crate) enum Stage {
-    /// Nothing: the machine is off.
+    /// No step: the machine is off.
     Rest,
-    /// Nothing: the image was resumed, and the machine runs.
+    /// No step: the image was resumed, and the machine runs.
     Runs,
-    /// The disk is synced.
+    /// The first sync of the disk.
     Sync,
-    /// The header block is read.
+    /// The read of the header block.
     Find,
-    /// It is written taken back.
+    /// The write of the header block with the mark taken back.
     TakeBack(FoundHeader),
-    /// That is synced.
+    /// The sync of the cleared mark. From here on no image exists.
     SyncBack(FoundHeader),
-    /// A map, the info page or a number page is read.
+    /// The read of a map, the info page or a number page.
     List(OpenChain),
-    /// A map or a saved page is read.
+    /// The read of a map or a saved page.
     Read(OpenChain),
 }
 
-/// A resume, or none. It takes all its memory when it is created.
+/// A resume, or none. All its memory is allocated when it is created.
 #[derive(Drop)]
 pub struct Load {
-    /// The page frames that the image names, and those of them without a data page.
+    /// The page frames that the image names; `zeros` has those of them without a data page.
     pub(crate) origs: Bitmap,
     pub(crate) zeros: Bitmap,
     pub(crate) waiting: Waiting,
-    /// The block of the chain that was read last, where it has no page frame to be read into.
+    /// The last block of the chain that was read, if it wasn't read into a page frame.
     pub(crate) page: Page,
     pub(crate) stage: Stage,
     pub(crate) loader: Loader,
@@ -77,7 +77,7 @@ impl Load {
     ghost use Rattle.resume_core.specs.StepsLeft.{loading_steps_left};
     ghost use Rattle.resume_core.specs.Row.{SimulatesWhereTold};
 
-    /// No resume, with the memory for every one of this machine.
+    /// Creates an idle `Load` with enough memory for every resume of this machine.
     pub fn create(alloc: Global, hw: &Hardware) -> Result<Load, NoMemory>
         ensures { IfOk result (IsIdle hw.now.zones) }
     {
@@ -92,14 +92,14 @@ impl Load {
         })
     }
 
-    /// The loader of the resume that is under way, or of the last one.
+    /// Returns the loader of the resume in progress, or of the last one.
     pub fn loader(&self) -> Loader
         ensures { result ≡ self.now.loader }
     {
         self.loader
     }
 
-    /// Makes the next step: at most one call of the disk.
+    /// Makes the next step, with at most one call of the disk.
     pub fn step<D: Disk>(
         &mut self,
         machine: &mut Machine,

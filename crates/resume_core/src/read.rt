@@ -61,8 +61,8 @@ impl Load {
         }
     }
 
-    /// Reads the chain's next block straight into the page frame where the next page waits, whatever comes: it is free
-    /// to the loader. Where all of them wait it is read into the page beside them.
+    /// Reads the chain's next block straight into the page frame where the next page waits, even if the block is a map:
+    /// that page frame is free to the loader. If all pages wait already, reads the block into `self.page`.
     fn read_in_place<D: Disk>(
         &mut self,
         machine: &Machine,
@@ -107,7 +107,7 @@ impl Load {
         }
     }
 
-    /// Goes on, or ends after the last page.
+    /// Continues the resume, or ends it after the last page.
     pub(crate) fn read_on(
         &mut self,
         machine: &mut Machine,
@@ -154,7 +154,7 @@ fn count_page(waiting: &mut Waiting)
     }
 }
 
-/// A page has 4096 bytes, which is known once they are read.
+/// Reading the bytes tells the prover that a page has 4096 of them.
 fn is_whole(page: &Page)
     ensures { IsPage page.now }
 {

@@ -11,13 +11,13 @@ use Rattle.plain_machine.specs.declared.event.Event.{Event}
 use Rattle.plain_machine.specs.declared.reply.Reply.{Reply}
 use Rattle.run_laws.specs.Resumes.{HibernatesAt, ResumesAt}
 
--- each page frame that was saveable has its page, and each slot its page, if it had one
+-- each page frame that was saveable has its page again, and each slot has the page that it had, if any
 pub record HasCopy (h : Hardware) (before after : Running) : Type 0 where
   pub pages : (p : ℕ) → Contains (saveable h before.memory) p → p < top h.zones →
       frame after.memory p ≡ frame before.memory p
   pub slots : after.slots ≡ before.slots
 
--- A machine that runs after the resume has them; after a dump's loader it is off.
+-- A machine that runs after the resume has these pages; after a resume with a dump's loader it is off.
 abbrev pub IsRestored : Hardware → Running → State → Type 0
 IsRestored h before (on after) = HasCopy h before after
 IsRestored h before (off held kept) = ⊤
@@ -29,9 +29,9 @@ IsRestored h before (waking i held a k) = ⊥
 IsRestored h before (loading load k) = ⊥
 IsRestored h before (asleep i held a) = ⊥
 
--- A run from a to b, in which event k ends a resume: of the hibernations that were accepted before, the last was at
--- this event. The run goes from a to the machine that hibernated, from there to what event k left, and on to b; and
--- event k left what that machine had when its hibernation was accepted, at the atomic copy.
+-- A run from a to b in which event k ends a resume. The last hibernation accepted before it was at event `at`. The run
+-- goes from a to the machine that hibernated, from there to what event k left, and on to b. Event k left what that
+-- machine had when its hibernation was accepted, at the atomic copy.
 pub record IsCopyOf (h : Hardware) (v : disk.DiskImage) (a : State) (events : List Event) (replies : List Reply)
     (b : State) (k : ℕ) : Type 0 where
   pub at : ℕ
@@ -45,6 +45,6 @@ pub record IsCopyOf (h : Hardware) (v : disk.DiskImage) (a : State) (events : Li
   pub ends : Run h v after (drop (suc k) events) (drop (suc k) replies) b
   pub restored : IsRestored h before after
 
--- each resume of the run that ended restores so
+-- each resume that ended in the run restores such a copy
 abbrev pub AllRestore : Hardware → disk.DiskImage → State → List Event → List Reply → State → Type 0
 AllRestore h v a events replies b = (k : ℕ) → ResumesAt replies k → IsCopyOf h v a events replies b k

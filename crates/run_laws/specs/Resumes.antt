@@ -1,4 +1,5 @@
--- "At most once": of the replies of a run, which tell of resumes that ended and of hibernations that were accepted.
+-- "At most once": over the replies of a run, which report the resumes that ended and the hibernations that were
+-- accepted.
 use Rattle.std.specs.Prelude.{◌≡◌, ◌<◌, ℕ, Bool, true, false, List, Some, slice_get}
 use Rattle.plain_machine.specs.declared.event.Event.{Event}
 use Rattle.plain_machine.specs.declared.event.Event.TheVariants as event
@@ -11,7 +12,7 @@ is_hibernation (event.Hibernate f) (reply.More k of) = true
 is_hibernation (event.Suspend f) (reply.More k of) = true
 is_hibernation _ _ = false
 
--- event j is one
+-- event j is such a hibernation or suspend
 pub record HibernatesAt (events : List Event) (replies : List Reply) (j : ℕ) : Type 0 where
   pub asked : Event
   pub answer : Reply
@@ -23,7 +24,7 @@ pub record HibernatesAt (events : List Event) (replies : List Reply) (j : ℕ) :
 abbrev pub ResumesAt : List Reply → ℕ → Type 0
 ResumesAt replies k = (n : ℕ) × (slice_get replies k ≡ Some (reply.Resumed n))
 
--- a hibernation stands before each resume, and between any two of them
+-- a hibernation is accepted before each resume that ends, and between any two of them
 pub record AreResumedOnce (events : List Event) (replies : List Reply) : Type 0 where
   pub hibernated : (k : ℕ) → ResumesAt replies k → (j : ℕ) × (j < k) × HibernatesAt events replies j
   pub once : (i k : ℕ) → i < k → ResumesAt replies i → ResumesAt replies k → (j : ℕ) × (i < j) × (j < k)

@@ -1,5 +1,5 @@
 -- Hybrid sleep: a machine that is woken, and the image that it left when it fell asleep, never both go on. In Linux:
--- power_down with HIBERNATION_SUSPEND, kernel/power/hibernate.c, which takes the mark back where the machine wakes.
+-- power_down with HIBERNATION_SUSPEND, kernel/power/hibernate.c, which takes the mark back when the machine wakes.
 use Rattle.std.specs.Prelude.{suc, ◌≡◌, ◌⊎◌, ◌<◌, ℕ, Bool, true, false, List, take, drop, Option, Some, slice_get, ⊤}
 use Rattle.page_core.specs.declared.format.Format.{Format}
 use Rattle.definitions.specs.Disk as disk
@@ -13,13 +13,13 @@ use Rattle.plain_machine.specs.declared.reply.Reply.{Reply}
 use Rattle.plain_machine.specs.declared.reply.Reply.TheVariants as reply
 use Rattle.run_laws.specs.Resumes.{HibernatesAt, ResumesAt}
 
--- what a task does: a request or a step of its
+-- what a task does: a request, or a step of its own
 abbrev pub is_of_task : Event → Bool
 is_of_task (event.Task t o) = true
 is_of_task (event.Step (actor.Task t)) = true
 is_of_task _ = false
 
--- the replies that refuse it
+-- the replies that refuse a task's request or step
 abbrev pub is_refusal : Reply → Bool
 is_refusal reply.NotOn = true
 is_refusal reply.Sleeping = true
@@ -72,7 +72,7 @@ pub record WakesAsBefore (h : Hardware) (v : disk.DiskImage) (a : State) (events
       (on (record before { held = nothing }))
   pub ends : Run h v (on (record before { held = nothing })) (drop (suc k) events) (drop (suc k) replies) b
 
--- an image that a machine made is there, surely or perhaps
+-- an image that a machine made exists, surely or perhaps
 abbrev pub HoldsOwn : Held → Type 0
 HoldsOwn nothing = ⊥
 HoldsOwn (sure (own i)) = ⊤
@@ -80,17 +80,17 @@ HoldsOwn (sure other) = ⊥
 HoldsOwn (maybe (own i)) = ⊤
 HoldsOwn (maybe other) = ⊥
 
--- a run from a to b in which event k leaves a machine that is off, with this on the disk
+-- a run from a to b in which event k leaves a machine that is off, with `held` on the disk
 pub record LeavesOff (h : Hardware) (v : disk.DiskImage) (a : State) (events : List Event) (replies : List Reply)
     (b : State) (k : ℕ) (held : Held) : Type 0 where
   pub kept : Option Memory
   pub leaves : Run h v a (take (suc k) events) (take (suc k) replies) (off held kept)
   pub ends : Run h v (off held kept) (drop (suc k) events) (drop (suc k) replies) b
 
--- Over a run: between the place where a machine falls asleep and the next one where a task goes on it wakes, or its
--- power is cut; a machine wakes as it was before its suspend; and between its waking and the next resume that ends a
--- hibernation is accepted. The first cut of a machine that sleeps leaves an image, surely or perhaps, and what a resume
--- restores of it AllRestore says; one after it woke, and before a hibernation is accepted, leaves none.
+-- Over a run: after a machine falls asleep, it wakes or its power is cut before a task goes on. A machine wakes as it
+-- was before its suspend. Between its waking and the next resume that ends, a hibernation is accepted. The first cut of
+-- a machine that sleeps leaves an image, surely or perhaps; AllRestore says what a resume restores of it. A cut after
+-- the machine woke, and before a hibernation is accepted, leaves none.
 pub record NeverBothGoOn (h : Hardware) (v : disk.DiskImage) (a : State) (events : List Event) (replies : List Reply)
     (b : State) : Type 0 where
   pub asleep : (j k : ℕ) → j < k → FallsAsleepAt replies j → TaskGoesOnAt events replies k → (i : ℕ) × (j < i) × (i < k)

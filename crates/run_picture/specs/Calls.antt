@@ -1,4 +1,4 @@
--- Which call of the disk a step makes, by what the machine does and by its reply.
+-- Which call of the disk a step makes, given what the machine does and its reply.
 use Rattle.std.specs.Prelude.{ℕ, ◌-◌, ◌==◌, nat_lt, if◌then◌else◌}
 use Rattle.plain_machine.specs.declared.event.Actor.TheVariants as actor
 use Rattle.plain_machine.specs.declared.event.Event.{Event}
@@ -64,7 +64,7 @@ abbrev pub undone_call : Told → Drawn
 undone_call (told.Fault call left) = undone_by left
 undone_call _ = NoCall
 
--- A settling and a waking read the header block, write it taken back, and sync.
+-- Settling and waking read the header block, write it taken back, and sync.
 abbrev pub untaken : Failing → Call
 untaken failing.Read = Header
 untaken failing.Write = Back
@@ -111,7 +111,7 @@ core_call Wakes t = back_call t
 core_call Loads t = load_call t
 core_call _ t = NoCall
 
--- no event but a step calls the disk
+-- only steps call the disk
 abbrev pub call_of : Activity → Event → Told → Drawn
 call_of activity (event.Step actor.Core) t = core_call activity t
 call_of activity (event.Step (actor.Task task)) t = task_call t

@@ -16,7 +16,7 @@ use Rattle.run_picture.specs.declared.lanes.Lanes.{Lanes}
 use Rattle.run_picture.specs.declared.telling.Told.{Told}
 use Rattle.run_picture.specs.declared.telling.Told.TheVariants as told
 
--- at first the machine is off, and no image is there
+-- at first the machine is off, and no image exists
 abbrev pub first : Lanes
 first = record { column = 0; activity = Nothing; image = NoImage }
 
@@ -24,13 +24,13 @@ abbrev pub is_core : Event → Bool
 is_core (event.Step actor.Core) = true
 is_core _ = false
 
--- What the machine does after an event: an operation begins where its first reply says so.
+-- What the machine does after an event: an operation begins if its first reply says so.
 abbrev pub begun : Activity → Activity → Told → Activity
 begun activity asked (told.More k n) = asked
 begun activity asked (told.Loading k) = asked
 begun activity asked _ = activity
 
--- where an operation fails the machine does what it did before
+-- if an operation fails, the machine does what it did before
 abbrev pub given_up : Activity → Activity
 given_up Nothing = Nothing
 given_up Boots = Nothing
@@ -61,24 +61,24 @@ activity_after activity event.Wake t = begun activity Wakes t
 activity_after activity (event.Resume loader check) t = begun activity Loads t
 activity_after activity _ t = activity
 
--- What is on the disk after a step: what a failed call has left,
+-- What is on the disk after a step. This is what a failed call has left.
 abbrev pub left_by : ImageShown → Left → ImageShown
 left_by held Same = held
 left_by held Gone = NoImage
 left_by held Unsure = Perhaps
 
--- what a header block is that is written and not synced, in front of an operation's last step,
+-- Before an operation's last step, the header block is written but not synced.
 abbrev pub marked : Activity → ImageShown → ℕ → ImageShown
 marked Saves held steps = if steps == 1 then Perhaps else held
 marked Settles held steps = if steps == 1 then Perhaps else held
 marked Wakes held steps = if steps == 1 then Perhaps else held
 marked _ held steps = held
 
--- what a resume finds, takes back, and has synced,
+-- What a resume has made of an image after k steps: it finds the image, takes its mark back, and syncs.
 abbrev pub loaded : ImageShown → ℕ → ImageShown
 loaded held k = if nat_lt k 2 then held else if k == 2 then Image else if k == 3 then Perhaps else NoImage
 
--- and what is left of an image that a resume refuses.
+-- What is left of an image that a resume refuses.
 abbrev pub refused : Activity → ImageShown → ImageShown
 refused Loads held = NoImage
 refused _ held = held
@@ -98,7 +98,7 @@ written activity held (told.Loading k) = loaded held k
 written activity held told.Other = refused activity held
 written activity held _ = held
 
--- no other event writes an image: a cut leaves what was there, and what that is is told by the next boot or resume
+-- only core steps write an image; after a cut the next boot or resume tells whether one is left
 abbrev pub image_after : Activity → ImageShown → Event → Told → ImageShown
 image_after activity held e t = if is_core e then written activity held t else held
 
@@ -109,7 +109,7 @@ after lanes e t = record {
   image = image_after lanes.activity lanes.image e t;
 }
 
--- Whether something else is done from this event on, so that it gets its name there.
+-- Whether the machine does something else from this event on, so that its name is written there.
 abbrev pub ends : Told → Bool
 ends (told.More k n) = false
 ends (told.Loading k) = false

@@ -1,5 +1,5 @@
--- The picture of a run, as the text of an SVG: a head, a column for each event, and a foot. It is drawn from the events
--- and their replies alone.
+-- The picture of a run, as the text of an SVG: a head, a column for each event, and a foot. Only the events and their
+-- replies determine it.
 use Rattle.std.specs.Prelude.{ℕ, Bool, ◌+◌, ◌*◌, List, [], ◌∷◌, ◌++◌, codes, decimal, length, nat_lt, if◌then◌else◌}
 use Rattle.plain_machine.specs.Replies.{line_of}
 use Rattle.plain_machine.specs.declared.event.Actor.TheVariants as actor
@@ -26,7 +26,7 @@ use Rattle.run_picture.specs.declared.telling.Told.TheVariants as told
 
 -- A column.
 
--- what it says where one points at it: the event's words and the reply's line
+-- the tooltip of a column: the event's words and the reply's line
 abbrev pub title_of : (words line : List ℕ) → List ℕ
 title_of words line = codes "<title>" ++ escaped words ++ codes ": " ++ escaped line ++ codes "</title>\n"
 
@@ -58,7 +58,7 @@ bands_text lanes =
     use_text (codes "power-") (power_name lanes.activity) ++ use_text (codes "memory-") (activity_name lanes.activity)
     ++ use_text (codes "disk-") (image_name lanes.image)
 
--- the name of what begins here, over its lane
+-- the name of what begins here, above its lane
 abbrev pub label_text : List ℕ → List ℕ → List ℕ
 label_text place name = codes "<text class='state' y='" ++ place ++ codes "'>" ++ name ++ codes "</text>\n"
 
@@ -76,7 +76,7 @@ image_label held Perhaps = []
 abbrev pub begun_label : Bool → Activity → List ℕ
 begun_label begins activity = if begins then activity_label activity else []
 
--- the call of the disk, crossed out where it fails
+-- the call of the disk, crossed out if it fails
 abbrev pub call_name : Call → List ℕ
 call_name Write = codes "write"
 call_name Read = codes "read"
@@ -94,7 +94,7 @@ abbrev pub cut_text : Event → List ℕ
 cut_text (event.Cut pick) = use_text [] (codes "cut")
 cut_text _ = []
 
--- the words over the lanes, which steps of the core go without
+-- the event's words above the lanes; steps of the core have none
 abbrev pub words_label : List ℕ → List ℕ
 words_label words =
     use_text [] (codes "event") ++ codes "<text transform='translate(12 146)rotate(-90)'>" ++ escaped words
@@ -103,7 +103,7 @@ words_label words =
 abbrev pub above_of : Event → (words : List ℕ) → List ℕ
 above_of e words = if is_core e then [] else words_label words
 
--- the reply below them
+-- the reply below the lanes
 abbrev pub reply_class : Told → List ℕ
 reply_class (told.More k n) = codes "more"
 reply_class (told.Loading k) = codes "more"
@@ -122,7 +122,7 @@ below_of t line = reply_label (reply_class t) line
 abbrev pub open_text : ℕ → List ℕ
 open_text place = named (codes "<g transform='translate(") place ++ codes ")'>\n"
 
--- What a column shows in the lanes: what is so after the event, the names of what begins, the call, and a cut.
+-- What a column shows in the lanes: the state after the event, the names of what begins, the call, and a cut.
 abbrev pub shown_by : ImageShown → Lanes → Bool → Drawn → Event → List ℕ
 shown_by old new begins call e =
     bands_text new ++ (begun_label begins new.activity ++ image_label old new.image) ++ call_text call ++ cut_text e
@@ -143,7 +143,7 @@ columns lanes [] replies = []
 columns lanes (e ∷ events) [] = []
 columns lanes (e ∷ events) (r ∷ replies) = column lanes e r ++ columns (after lanes e (told_by r)) events replies
 
--- The head, which is as wide as so many columns, or as the legend.
+-- The head, which is as wide as its n columns, or as the legend.
 
 abbrev pub width : ℕ → ℕ
 width n = if nat_lt (88 + 16 * n) 720 then 720 else 88 + 16 * n
@@ -159,7 +159,7 @@ head n = size_text (width n) ++ LANES.now
 unfoldable pub foot : List ℕ
 foot = LEGEND.now
 
--- a picture of n columns, of which those of these events are drawn
+-- a picture of n columns, in which those of these events are drawn
 abbrev pub pictured : ℕ → List Event → List Reply → List ℕ
 pictured n events replies = head n ++ columns first events replies ++ foot
 

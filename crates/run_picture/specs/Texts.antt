@@ -11,6 +11,6 @@ escaped text = flat_map escape text
 abbrev pub named : List ℕ → ℕ → List ℕ
 named name n = name ++ decimal n
 
--- what the head draws under a name, of a kind or of none
+-- a use of a shape that the head defines, by its kind, if any, and its name
 abbrev pub use_text : List ℕ → List ℕ → List ℕ
 use_text kind name = codes "<use href='#" ++ kind ++ name ++ codes "'/>\n"

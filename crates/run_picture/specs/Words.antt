@@ -21,7 +21,7 @@ range_words range = named (codes " ") range.0 ++ named (codes "-") range.1
 abbrev pub ranges_words : Ranges → List ℕ
 ranges_words ranges = flat_map range_words (take ranges.count ranges.list)
 
--- what a task asks for: its name, the task, and so many numbers
+-- a task's request: its name, the task, and a number
 abbrev pub one_words : List ℕ → ℕ → ℕ → List ℕ
 one_words name t m = named name t ++ named (codes " ") m
 

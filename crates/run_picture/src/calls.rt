@@ -11,16 +11,16 @@ use plain_machine::{Actor, Event, Left, UndoCall};
 /// A call of the disk, by what it does.
 #[derive(Clone, Copy)]
 pub(crate) enum Call {
-    /// A page or a map is written.
+    /// A write of a page or a map.
     Write,
-    /// A page or a map is read.
+    /// A read of a page or a map.
     Read,
-    /// The header block is read.
+    /// A read of the header block.
     Header,
     Sync,
-    /// The header block is written with the mark.
+    /// A write of the header block with the mark.
     Mark,
-    /// The header block is written with the mark taken back.
+    /// A write of the header block with the mark taken back.
     Back,
 }
 
@@ -32,7 +32,7 @@ pub(crate) enum Drawn {
     Fails(Call),
 }
 
-/// The call that an event makes, by what the machine does before it and by its reply.
+/// Returns the call that an event makes, given what the machine does before it and its reply.
 pub(crate) fn call_of(activity: Activity, event: &Event, told: Told) -> Drawn
     ensures { result ≡ call_of activity event.now told }
 {
@@ -90,7 +90,7 @@ fn save_call(told: Told) -> Drawn
     }
 }
 
-/// The call of a hibernation after which `left` steps are left.
+/// Returns the call of a hibernation after which `left` steps are left.
 fn save_step(left: u32) -> Call
     ensures { result ≡ save_step left }
 {
@@ -114,7 +114,7 @@ fn unmarked(call: UndoCall) -> Call
     }
 }
 
-/// The call of a hibernation that fails before the mark.
+/// Returns the call of a hibernation that fails before the mark.
 fn unsaved(call: Failing) -> Call
     ensures { result ≡ unsaved call }
 {
@@ -165,7 +165,7 @@ fn back_call(told: Told) -> Drawn
     }
 }
 
-/// The call that fails where a mark is taken back.
+/// Returns the call that fails when a mark is taken back.
 fn untaken(call: Failing) -> Call
     ensures { result ≡ untaken call }
 {
@@ -190,7 +190,7 @@ fn load_call(told: Told) -> Drawn
     }
 }
 
-/// The call that is step k of a resume.
+/// Returns the call that is step k of a resume.
 fn load_step(k: u32) -> Call
     ensures { result ≡ load_step k }
 {

@@ -21,7 +21,7 @@ use byte_streams::{Sink, put_all};
 use page_core::Failed;
 use plain_machine::{Event, Reply};
 
-/// Draws an event with its reply and the reply's line, and what the lanes then show.
+/// Draws an event with its reply and the reply's line, and what the lanes show after it.
 pub fn put_column<O: Sink>(
     out: &mut O,
     lanes: &mut Lanes,
@@ -65,7 +65,7 @@ fn column_of(lanes: Lanes, event: &Event, told: Told, line: &[u8]) -> Piece
     )
 }
 
-/// The column of an event by its words, and by what its reply says and the reply's line.
+/// Makes the column of an event from its words, from what its reply says, and from the reply's line.
 fn column_by(
     place: u64,
     lanes: Lanes,
@@ -89,7 +89,7 @@ fn column_by(
     piece
 }
 
-/// How far from the left a column stands.
+/// Returns how far from the left a column stands.
 fn place_of(column: u32) -> u64
     requires { column < 2 ^ 27 }
     ensures { result ≡ 72 + 16 * column }
@@ -116,7 +116,7 @@ fn words_of(event: &Event) -> Piece
     words
 }
 
-/// Adds what is shown of a column where one points at it.
+/// Adds the tooltip of a column.
 fn put_title(piece: &mut Piece, words: &[u8], line: &[u8])
     requires room { length piece.old ≤ 1000 }
     requires words { length words.now ≤ 400 }
@@ -308,7 +308,7 @@ fn put_call(piece: &mut Piece, drawn: Drawn)
     }
 }
 
-/// Adds the words of an event over the lanes.
+/// Adds the words of an event above the lanes.
 fn put_above(piece: &mut Piece, event: &Event, words: &[u8])
     requires room { length piece.old ≤ 4500 }
     requires words { length words.now ≤ 400 }

@@ -1,4 +1,4 @@
-//! What stands before the columns and after them.
+//! The head of a picture, before its columns, and its foot, after them.
 ghost use Rattle.std.specs.Prelude.{◌≡◌, ◌≤◌, ◌<◌, ◌^◌, length, OnOk, OnErr};
 ghost use Rattle.definitions.specs.Disk.{HasRisen};
 ghost use Rattle.definitions.specs.Streams.{TakesAll, TakesFront};
@@ -9,7 +9,7 @@ use crate::shapes::{LANES, LEGEND};
 use byte_streams::{Sink, put_all};
 use page_core::Failed;
 
-/// Begins a picture of so many columns.
+/// Begins a picture of `columns` columns.
 pub fn put_head<O: Sink>(out: &mut O, columns: u32) -> Result<(), Failed>
     requires { columns < 2 ^ 27 }
     ensures whole { OnOk result (TakesAll (head columns) (O.taken out.old) (O.taken out.new)) }
@@ -21,7 +21,7 @@ pub fn put_head<O: Sink>(out: &mut O, columns: u32) -> Result<(), Failed>
     put_all(out, LANES)
 }
 
-/// The start of a picture with its width.
+/// Makes the start of a picture of this width.
 fn sized(width: u64) -> Piece
     ensures { result ≡ size_text width }
 {
@@ -35,7 +35,7 @@ fn sized(width: u64) -> Piece
     piece
 }
 
-/// A picture is at least as wide as its legend.
+/// Returns the width of a picture, which is at least that of its legend.
 fn width(columns: u32) -> u64
     requires { columns < 2 ^ 27 }
     ensures { result ≡ width columns }

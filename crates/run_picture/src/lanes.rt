@@ -1,4 +1,4 @@
-//! What the lanes show, and what an event makes of it.
+//! What the lanes show, and how an event changes it.
 ghost use Rattle.std.specs.Prelude.{◌≡◌, ◌==◌, if◌then◌else◌};
 ghost use Rattle.run_picture.specs.Lanes.{activity_after, begins, begun, ends, given_up, image_after, is_core, left_by};
 ghost use Rattle.run_picture.specs.Lanes.{loaded, marked, refused, stepped, written};
@@ -9,15 +9,15 @@ use plain_machine::{Actor, Event, Left};
 /// What the machine does.
 #[derive(Clone, Copy, Debug, PartialEq, Eq)]
 pub enum Activity {
-    /// It is off.
+    /// The machine is off.
     Nothing,
     Boots,
     Runs,
-    /// It hibernates, or falls asleep.
+    /// The machine hibernates, or falls asleep.
     Saves,
-    /// A hibernation is undone, and the mark isn't taken back yet.
+    /// A hibernation is being undone, and the mark isn't taken back yet.
     Undoes,
-    /// A hibernation is undone, and the mark is taken back.
+    /// A hibernation is being undone, and the mark is taken back.
     Undone,
     Settles,
     Wakes,
@@ -25,16 +25,16 @@ pub enum Activity {
     Sleeps,
 }
 
-/// Whether an image is on the disk, as far as the replies have told.
+/// Whether an image is on the disk, as far as the replies have shown.
 #[derive(Clone, Copy, Debug, PartialEq, Eq)]
 pub enum ImageShown {
     NoImage,
     Image,
-    /// A cut or a failed call may have left one.
+    /// A cut or a failed call may have left an image.
     Perhaps,
 }
 
-/// What the lanes show in front of a column, and the number of that column, from 0 on.
+/// What the lanes show before a column, and the number of that column, from 0 on.
 #[derive(Clone, Copy, Debug, PartialEq, Eq)]
 pub struct Lanes {
     pub column: u32,
@@ -46,7 +46,7 @@ impl Lanes {
     ghost use Rattle.std.specs.Prelude.{◌≡◌, ◌<◌, ◌^◌};
     ghost use Rattle.run_picture.specs.Lanes.{after, first};
 
-    /// A machine that is off, with no image.
+    /// Makes the lanes of a machine that is off, with no image.
     pub fn new() -> Lanes
         ensures { result ≡ first }
     {
@@ -57,7 +57,7 @@ impl Lanes {
         }
     }
 
-    /// What they show after an event by what its reply says.
+    /// Returns what the lanes show after an event, by what its reply says.
     pub(crate) fn after(&self, event: &Event, told: Told) -> Lanes
         requires { self.now.column < 2 ^ 31 }
         ensures { result ≡ after self.now event.now told }
@@ -86,14 +86,14 @@ fn activity_after(activity: Activity, event: &Event, told: Told) -> Activity
     }
 }
 
-/// Whether the event is a step of the core.
+/// Returns whether the event is a step of the core.
 pub(crate) fn is_core(event: &Event) -> bool
     ensures { result ≡ is_core event.now }
 {
     matches!(event, Event::Step(Actor::Core))
 }
 
-/// What the machine does after an event that asks for an operation.
+/// Returns what the machine does after an event that asks for an operation.
 fn begun(activity: Activity, asked: Activity, told: Told) -> Activity
     ensures { result ≡ begun activity asked told }
 {
@@ -104,7 +104,7 @@ fn begun(activity: Activity, asked: Activity, told: Told) -> Activity
     }
 }
 
-/// What it does after a step of an operation.
+/// Returns what the machine does after a step of an operation.
 fn stepped(activity: Activity, told: Told) -> Activity
     ensures { result ≡ stepped activity told }
 {
@@ -127,7 +127,7 @@ fn stepped(activity: Activity, told: Told) -> Activity
     }
 }
 
-/// What it does after an operation that has failed.
+/// Returns what the machine does after an operation that has failed.
 fn given_up(activity: Activity) -> Activity
     ensures { result ≡ given_up activity }
 {
@@ -151,7 +151,7 @@ fn image_after(activity: Activity, image: ImageShown, event: &Event, told: Told)
     }
 }
 
-/// What is on the disk after a step of the core.
+/// Returns what is on the disk after a step of the core.
 fn written(activity: Activity, image: ImageShown, told: Told) -> ImageShown
     ensures { result ≡ written activity image told }
 {
@@ -172,7 +172,7 @@ fn written(activity: Activity, image: ImageShown, told: Told) -> ImageShown
     }
 }
 
-/// What a failed call has left.
+/// Returns what a failed call has left.
 fn left_by(image: ImageShown, left: Left) -> ImageShown
     ensures { result ≡ left_by image left }
 {
@@ -183,7 +183,8 @@ fn left_by(image: ImageShown, left: Left) -> ImageShown
     }
 }
 
-/// What is on the disk so many steps before the end of an operation, whose last but one writes the header block.
+/// Returns what is on the disk `steps` steps before the end of an operation, whose last step but one writes the header
+/// block.
 fn marked(activity: Activity, image: ImageShown, steps: u32) -> ImageShown
     ensures { result ≡ marked activity image steps }
 {
@@ -205,7 +206,7 @@ fn unsynced(image: ImageShown, steps: u32) -> ImageShown
     }
 }
 
-/// What is on the disk after k steps of a resume.
+/// Returns what is on the disk after k steps of a resume.
 fn loaded(image: ImageShown, k: u32) -> ImageShown
     ensures { result ≡ loaded image k }
 {
@@ -220,7 +221,7 @@ fn loaded(image: ImageShown, k: u32) -> ImageShown
     }
 }
 
-/// What is on the disk after a step that is refused.
+/// Returns what is on the disk after a step that is refused.
 fn refused(activity: Activity, image: ImageShown) -> ImageShown
     ensures { result ≡ refused activity image }
 {
@@ -230,7 +231,7 @@ fn refused(activity: Activity, image: ImageShown) -> ImageShown
     }
 }
 
-/// Whether something else is done from an event on.
+/// Returns whether the machine does something else from an event on.
 pub(crate) fn begins(event: &Event, told: Told) -> bool
     ensures { result ≡ begins event.now told }
 {

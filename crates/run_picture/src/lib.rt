@@ -1,4 +1,4 @@
-//! The run of a script as a picture, an SVG: what memory, disk and power show at each event.
+//! Draws the run of a script as a picture, an SVG: what memory, disk and power show at each event.
 #![tactic(auto)]
 
 mod calls;

@@ -78,7 +78,7 @@ impl Piece {
         }
     }
 
-    /// Adds what is drawn under a name of the head.
+    /// Adds a use of a shape that the head defines.
     pub(crate) fn put_use(&mut self, kind: &[u8], name: &[u8])
         requires { length self.old + length kind.now + length name.now ≤ 8000 }
         ensures added { self.new ≡ self.old ++ use_text kind.now name.now }

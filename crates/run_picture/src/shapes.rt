@@ -1,6 +1,6 @@
-//! What every picture draws: how it looks, its lanes, and its legend.
+//! What every picture has: its style, its lanes, and its legend.
 
-/// The shapes and their colours, which people who don't see all colours can tell apart, and the names of the lanes.
+/// The shapes and their colours, which color-blind people can tell apart, and the names of the lanes.
 pub(crate) const LANES: &[u8] = b"<style>
 .lane { font-weight: bold }
 .state, .more, .reply, .fault { font-size: 10px }
@@ -45,7 +45,7 @@ pub(crate) const LANES: &[u8] = b"<style>
 <text class='lane' x='6' y='267'>disk</text>
 ";
 
-/// What the shapes mean, over words that are longer than their place.
+/// The legend: what the shapes mean. It covers words that are longer than their place.
 pub(crate) const LEGEND: &[u8] = b"<path fill='#fff' d='M0 0h720v58h-720z'/>
 <text class='lane' x='6' y='15'>power</text>
 <use href='#power-on' x='72' y='-164'/><text x='92' y='15'>on</text>

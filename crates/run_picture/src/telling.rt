@@ -4,14 +4,14 @@ ghost use Rattle.run_picture.specs.Telling.{told_by};
 
 use plain_machine::{Left, Reply, UndoCall};
 
-/// What a reply says of the operation that makes a step, or of the one that is asked for.
+/// What a reply says of the operation that makes a step, or of the one that is requested.
 #[derive(Clone, Copy)]
 pub(crate) enum Told {
-    /// It has made k of so many steps.
+    /// The operation has made `k` of `of` steps.
     More { k: u32, of: u32 },
     /// A resume has made k steps.
     Loading { k: u32 },
-    /// A hibernation is undone, which has made k steps.
+    /// A hibernation that had made k steps is being undone.
     Undo { call: UndoCall, k: u32 },
     Booted { image: bool },
     /// The image is on the disk, and the machine is off.

@@ -6,8 +6,8 @@ use Rattle.definitions.specs.Moves.{Move}
 use Rattle.definitions.specs.Zones.{numbers}
 use Rattle.definitions.specs.ZoneFacts.{AreZones}
 
--- A move takes the page that waits in its source to the original that is its target. Once the placement is ready, the
--- other fields tell it.
+-- A move takes the page that waits in its source to its target, an original. The other fields mean something once the
+-- placement is ready.
 pub record Placed : Type 0 where
   pub zones : List (ℕ × ℕ)
   pub ready : Bool
@@ -21,7 +21,7 @@ sources moves = map (λ m. m.0) moves
 abbrev pub targets : List Move → List ℕ
 targets moves = map (λ m. m.1) moves
 
--- the placement of these moves, list frames and bounce frame
+-- the ready placement of these moves, list frames and bounce frame
 abbrev pub placed : List (ℕ × ℕ) → List Move → List ℕ → ℕ → Placed
 placed zones moves list bounce = record { zones = zones; ready = true; moves = moves; list = list; bounce = bounce }
 
@@ -30,9 +30,8 @@ pub record IsUnnamed (moves : List Move) (p : ℕ) : Type 0 where
   pub no_source : Contains (sources moves) p → ⊥
   pub no_target : Contains (targets moves) p → ⊥
 
--- Every page frame is valid; no two moves share a source, and no two a target. The list frames are distinct, and they
--- and the bounce frame are named by no move. The list frames suffice: a list frame has 170 entries, and 85 moves make
--- at most 170.
+-- Every page frame is valid; no two moves share a source, and no two a target. The list frames are distinct, and no
+-- move names them or the bounce frame. The list frames suffice: each has 170 entries, and 85 moves make at most 170.
 pub record IsPlacement (p : Placed) : Type 0 where
   pub zones : AreZones p.zones
   pub sources_valid : All (Contains (numbers p.zones)) (sources p.moves)
@@ -47,8 +46,7 @@ pub record IsPlacement (p : Placed) : Type 0 where
   pub bounce_apart : Contains p.list p.bounce → ⊥
   pub room : length p.moves ≤ 85 * length p.list
 
--- a placement that takes only page frames of this set: pages wait in them, and the restore list and the bounce frame
--- are some
+-- a placement that takes only page frames of this set, for the pages that wait, the restore list and the bounce frame
 pub record TakesFrom (set : List ℕ) (p : Placed) : Type 0 where
   pub sources_in : All (Contains set) (sources p.moves)
   pub list_in : All (Contains set) p.list

@@ -1,4 +1,4 @@
-//! Where loaded pages wait until they can be moved to their own page frames (get_safe_page and prepare_image,
+//! Plans where loaded pages wait until they can be moved to their own page frames (get_safe_page and prepare_image,
 //! kernel/power/snapshot.c).
 #![tactic(auto)]
 
@@ -17,7 +17,7 @@ use std::marker::Model;
 use thiserror::Error;
 use zones::Zones;
 
-/// One list frame serves this many moves: it has 170 entries, and 85 moves make at most so many.
+/// The moves that one list frame serves: it has 170 entries, and 85 moves make at most 170.
 const MOVES_A_LIST_FRAME: u32 = 85;
 
 /// Too few page frames are free to the loader.
@@ -29,7 +29,7 @@ pub struct TooFew {
 }
 
 /// The page frames in which loaded pages wait, each with the original that its page goes to, and the page frames for
-/// the restore list and for a page that has to make way. It takes all its memory when it is made.
+/// the restore list and for a page that has to make way. A placement takes all its memory when it is made.
 #[derive(Drop)]
 pub struct Placement {
     zones: Zones,
@@ -52,7 +52,7 @@ impl Model for Placement {
 }
 
 impl Placement {
-    /// A placement that isn't ready, with the memory for every plan over these zones.
+    /// Makes a placement that isn't ready, with the memory for every plan over these zones.
     pub fn create(alloc: Global, zones: &Zones) -> Result<Placement, NoMemory>
         ensures zones { IfOk result (λ p. p.zones ≡ zones.now) }
         ensures empty { IfOk result (λ p. (p.ready ≡ false) × (p.moves ≡ []) × (p.list ≡ [])) }
@@ -71,7 +71,7 @@ impl Placement {
         })
     }
 
-    /// The placement of these moves, as pairs (source, target), with these list frames and this bounce frame.
+    /// Makes the placement of these moves, as pairs (source, target), with these list frames and this bounce frame.
     pub fn given(
         alloc: Global,
         zones: &Zones,
@@ -96,9 +96,9 @@ impl Placement {
         Ok(placement)
     }
 
-    /// Plans the moves of pages to these originals, all but the ones without data, over the page frames that are free
-    /// to the loader. The list frames and the bounce frame are the lowest free ones that are no originals; the pages
-    /// wait in the highest of the others. Refused where too few are free; the placement isn't ready then.
+    /// Plans the moves of pages to these originals, over the page frames that are free to the loader. The list frames
+    /// and the bounce frame are the lowest free ones that aren't originals; the pages wait in the highest of the
+    /// others. Refuses if too few are free, and then leaves the placement not ready.
     pub fn plan(&mut self, origs: &Bitmap, free: &Bitmap) -> Result<(), TooFew>
         requires origs { origs.now.zones ≡ self.old.zones }
         requires free { free.now.zones ≡ self.old.zones }
@@ -128,7 +128,7 @@ impl Placement {
         Ok(())
     }
 
-    /// The moves, as pairs (source, target).
+    /// Returns the moves, as pairs (source, target).
     pub fn moves(&self) -> &[(u32, u32)]
         requires { self.now.ready ≡ true }
         ensures moves { result.now ≡ self.now.moves }
@@ -137,7 +137,7 @@ impl Placement {
         self.moves.as_slice()
     }
 
-    /// The page frame in which the k-th page waits.
+    /// Returns the page frame in which the k-th page waits.
     pub fn frame_for(&self, k: u32) -> u32
         requires ready { self.now.ready ≡ true }
         requires within { k < length self.now.moves }
@@ -147,7 +147,7 @@ impl Placement {
         self.moves[k as usize].0
     }
 
-    /// The page frames that the restore list may use.
+    /// Returns the page frames that the restore list may use.
     pub fn list_frames(&self) -> &[u32]
         requires { self.now.ready ≡ true }
         ensures list { result.now ≡ self.now.list }
@@ -156,7 +156,7 @@ impl Placement {
         self.list.as_slice()
     }
 
-    /// The page frame for a page that has to make way.
+    /// Returns the page frame for a page that has to make way.
     pub fn bounce(&self) -> u32
         requires { self.now.ready ≡ true }
         ensures bounce { result ≡ self.now.bounce }
@@ -166,7 +166,7 @@ impl Placement {
     }
 }
 
-/// The list frames for so many moves.
+/// Returns how many list frames `moves` moves need.
 fn list_frames_for(moves: u32) -> u32
     ensures { result ≡ list_frames_for moves }
 {

@@ -7,7 +7,7 @@ ghost use Rattle.safe_pages.specs.Walk.{HasPassed, unreserved};
 
 use memory_bitmap::Bitmap;
 
-/// Makes `list` the list of the `count` lowest free page frames that are no originals, and answers the next one.
+/// Makes `list` the `count` lowest free page frames that aren't originals, and returns the next one.
 pub(crate) fn reserve(list: &mut Vec<u32>, origs: &Bitmap, free: &Bitmap, count: u32) -> u32
     requires set { IsFrameSet free.now }
     requires enough { count < length (without free.now.members origs.now.members) }
@@ -26,8 +26,7 @@ pub(crate) fn reserve(list: &mut Vec<u32>, origs: &Bitmap, free: &Bitmap, count:
     next_apart(origs, free, from).unwrap()
 }
 
-/// Makes `moves` the moves from the free page frames that aren't reserved, but for the `skip` lowest of them, to the
-/// originals.
+/// Makes `moves` the moves to the originals from the free page frames that aren't reserved, without the `skip` lowest.
 pub(crate) fn pair(
     moves: &mut Vec<(u32, u32)>,
     origs: &Bitmap,
@@ -52,7 +51,7 @@ pub(crate) fn pair(
     }
 }
 
-/// A page frame number that lies above the `skip` lowest free page frames that aren't reserved, and above no others.
+/// Returns a number above exactly the `skip` lowest of the free page frames that aren't reserved.
 fn pass(origs: &Bitmap, free: &Bitmap, bounce: u32, skip: u32) -> u32
     requires free { IsFrameSet free.now }
     requires enough { skip ≤ length (unreserved origs.now.members free.now.members bounce) }
@@ -66,7 +65,7 @@ fn pass(origs: &Bitmap, free: &Bitmap, bounce: u32, skip: u32) -> u32
     from
 }
 
-/// The least free page frame from `from` on that is no original.
+/// Returns the least free page frame from `from` on that isn't an original.
 fn next_apart(origs: &Bitmap, free: &Bitmap, from: u32) -> Option<u32>
     requires { IsFrameSet free.now }
     ensures { result ≡ first_from (without free.now.members origs.now.members) from }
@@ -79,7 +78,7 @@ fn next_apart(origs: &Bitmap, free: &Bitmap, from: u32) -> Option<u32>
     None
 }
 
-/// The least free page frame from `from` on that isn't reserved.
+/// Returns the least free page frame from `from` on that isn't reserved.
 fn next_unreserved(origs: &Bitmap, free: &Bitmap, bounce: u32, from: u32) -> Option<u32>
     requires { IsFrameSet free.now }
     ensures { result ≡ first_from (unreserved origs.now.members free.now.members bounce) from }

@@ -1,5 +1,4 @@
--- The tests of a page frame by its entry in the frame table, as the lists of saveable and of free page frames have
--- them.
+-- The tests of a page frame by its entry in the frame table, as used in the lists of saveable and of free page frames.
 use Rattle.std.specs.Prelude.{ℕ, ◌==◌, Bool, List}
 use Rattle.definitions.specs.Tables.{entry_at, page_flags, is_saveable}
 

@@ -1,4 +1,4 @@
-//! Which page frames an image saves (kernel/power/snapshot.c, saveable_page), and which are free.
+//! Finds the page frames that an image saves (kernel/power/snapshot.c, saveable_page), and those that are free.
 #![tactic(auto)]
 
 ghost use Rattle.std.specs.Prelude.{◌≡◌, ℕ, ◌+◌, ◌/◌, ◌<◌, ◌≤◌, ◌↔◌, ◌++◌, IsTrue, filter, List, length};
@@ -16,7 +16,7 @@ use memory_bitmap::Bitmap;
 use page_states::{PageFlags, entry};
 use zones::Zones;
 
-/// What the lists of page frames come from: the memory, its zones, and the first page frame of the frame table.
+/// The source of the lists of page frames: the memory, its zones, and the first page frame of the frame table.
 #[derive(Clone, Copy)]
 pub struct View<'a> {
     pub frames: &'a Frames,
@@ -24,7 +24,7 @@ pub struct View<'a> {
     pub table: u32,
 }
 
-/// Whether page frame `p` is saveable. One that isn't valid is not.
+/// Returns whether page frame `p` is saveable. One that isn't valid isn't saveable.
 pub fn saveable(view: &View, p: u32) -> bool
     requires { HasTable view.now.frames.now view.now.table (top view.now.zones.now) }
     ensures { IsTrue result ↔ Contains (saveable_frames view.now.zones.now view.now.table view.now.frames.now) p }
@@ -32,7 +32,7 @@ pub fn saveable(view: &View, p: u32) -> bool
     view.zones.valid(p) && is_saveable(entry(view.frames, view.table, p).0)
 }
 
-/// Makes the set that of the saveable page frames, and answers how many they are.
+/// Makes `set` the saveable page frames, and returns how many there are.
 pub fn mark_all(view: &View, set: &mut Bitmap) -> u32
     requires table { HasTable view.now.frames.now view.now.table (top view.now.zones.now) }
     requires zones { set.old.zones ≡ view.now.zones.now }
@@ -49,7 +49,7 @@ pub fn mark_all(view: &View, set: &mut Bitmap) -> u32
     set.len()
 }
 
-/// How many page frames are free.
+/// Returns how many page frames are free.
 pub fn count_free(view: &View) -> u32
     requires { HasTable view.now.frames.now view.now.table (top view.now.zones.now) }
     ensures { result ≡ length (free_frames view.now.zones.now view.now.table view.now.frames.now) }
@@ -61,7 +61,7 @@ pub fn count_free(view: &View) -> u32
     count
 }
 
-/// Whether these flags let a page frame be saved.
+/// Returns whether a page frame with these flags may be saved.
 fn is_saveable(flags: PageFlags) -> bool
     ensures { result ≡ is_saveable (bits_of flags) }
 {
@@ -91,7 +91,7 @@ fn mark_zone(view: &View, zone: (u32, u32), set: &mut Bitmap)
     }
 }
 
-/// How many page frames of a zone are free.
+/// Returns how many page frames of a zone are free.
 fn free_in_zone(view: &View, zone: (u32, u32)) -> u32
     requires zone { IsZone zone }
     requires table { HasTable view.now.frames.now view.now.table (zone_end zone) }
@@ -108,7 +108,7 @@ fn free_in_zone(view: &View, zone: (u32, u32)) -> u32
     free
 }
 
-/// Whether the entry of page frame `p` is FREE, with no other flag and no owner.
+/// Returns whether the entry of page frame `p` is FREE, with no other flag and no owner.
 fn is_free(view: &View, p: u32) -> bool
     requires { view.now.table + p / 1024 < length view.now.frames.now }
     ensures { result ≡ free_by_entry view.now.table view.now.frames.now p }

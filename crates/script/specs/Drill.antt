@@ -1,6 +1,6 @@
--- [drill]: the run that is made from one number, 1 to 2000, and the line that sums it up. Own: tasks claim page frames,
--- store into them and swap some of them out, the machine hibernates, the power is cut, the image is resumed, and the
--- tasks show what they stored.
+-- [drill]: the run that is made from one number, 1 to 2000, and the line that sums it up. It is our own: tasks claim
+-- page frames, store into them and swap some of them out, the machine hibernates, the power is cut, the image is
+-- resumed, and the tasks show what they stored.
 use Rattle.std.specs.Prelude.{ℕ, ◌+◌, ◌*◌, ◌%◌, ◌^◌, List, [], ◌∷◌, ◌++◌, Bool, true, false, Option, Some, None, codes}
 use Rattle.std.specs.Prelude.{decimal, length, map, flat_map, replicate, reverse, nat_lt, count_by, if◌then◌else◌}
 use Rattle.std.specs.List.{filter_map, range_with_len, sum}
@@ -23,8 +23,7 @@ use Rattle.script.specs.Grammar.{ScriptValue}
 use Rattle.script.specs.Settings.{scripted_ident}
 use Rattle.script.specs.declared.tally.Tally.{Tally}
 
--- The machine: page frames 0 to 8191 with the tables in the lowest, and slots 0 to 16383, each on the block of its
--- number.
+-- The machine: page frames 0 to 8191 with the tables in the lowest, and slots 0 to 16383, slot s on block s.
 abbrev pub drill_hardware : Hardware
 drill_hardware = record {
   zones = (0, 8192) ∷ [];
@@ -37,7 +36,7 @@ drill_hardware = record {
   extents = (0, 16384, 0) ∷ [];
 }
 
--- The i-th page frame, the task that it is of, the word of it that is stored, and what drill c stores there.
+-- The i-th page frame, its task, the word of it that is stored into, and what drill c stores there.
 abbrev pub frame : ℕ → ℕ
 frame i = 100 + 2 * i
 
@@ -50,7 +49,7 @@ word i = i % 512
 abbrev pub value : ℕ → ℕ → ℕ
 value c i = 1000003 * c + 7919 * i
 
--- what the i-th page frame's task asks for, and its step
+-- a request of the i-th page frame's task, and that task's step
 abbrev pub asks : ℕ → TaskOp → Event
 asks i o = event.Task (task i) o
 
@@ -80,11 +79,11 @@ core_steps n = replicate n (event.Step actor.Core)
 abbrev pub below : ℕ → List ℕ
 below n = range_with_len 0 n
 
--- so many pages go out: at most 8
+-- the number of pages that go out: at most 8
 abbrev pub swapped : ℕ → ℕ
 swapped c = if nat_lt c 8 then c else 8
 
--- The image has the tables' 24 page frames and the c claimed ones: its stream's pages.
+-- The pages of the image's stream: the image has the 24 page frames of the tables and the c claimed ones.
 abbrev pub pages : ℕ → ℕ
 pages c = 24 + c + meta_of (24 + c) + 1
 
@@ -92,9 +91,9 @@ pages c = 24 + c + meta_of (24 + c) + 1
 abbrev pub loader_ranges : Ranges
 loader_ranges = record { count = 2; list = (0, 99) ∷ (4000, 4999) ∷ replicate 6 (0, 0) }
 
--- What happens, part by part: pages that are claimed are stored into; some go out, the last one first to be written,
--- and are stored into again; the machine hibernates; after a cut it is resumed; every page is shown; those that went
--- out come in again, and are shown.
+-- The events, part by part: the claimed page frames are stored into; some go out, the last one written first, and are
+-- stored into again; the machine hibernates; after a cut it is resumed; every page is shown; those that went out come
+-- in again, and are shown.
 abbrev pub boots : List Event
 boots = event.Boot Fresh ∷ core_steps 2
 
@@ -137,7 +136,8 @@ abbrev pub word_in : Reply → Option ℕ
 word_in (reply.Word v) = Some v
 word_in _ = None
 
--- what replies come to: how many there are, of two kinds and with words, and the sum of the words, modulo 2^64
+-- a tally of replies: how many there are, how many of each of two kinds and how many with words, and the sum of the
+-- words modulo 2^64
 unfoldable pub tally_of : List Reply → Tally
 tally_of replies = record {
   events = length replies;

@@ -28,7 +28,7 @@ use denote.Ref.{Bor}
 abbrev pub is_printable : ℕ → Bool
 is_printable b = nat_le 32 b && nat_le b 126
 
--- the row with a first word
+-- the row with the given first word
 abbrev pub row_of : {A : Type 0} → List ℕ → List (Row A) → Option (Row A)
 row_of first rows = find (λ row. bytes_eq row.first first) rows
 
@@ -38,7 +38,7 @@ by_rows begun (Some row) setting words = row.reads words >>= λ e. Ok (Events e.
 by_rows begun None (Some row) words = if begun then Err kind.Late else (row.reads words >>= λ s. Ok (Sets s))
 by_rows begun None None words = Err kind.Word
 
--- what the words of a line say, where begun tells that an event stands before it
+-- what the words of a line say; `begun` says whether an event stands before it
 unfoldable pub words_item : Bool → List ℕ → List (List ℕ) → Result Item FaultKind
 words_item begun first words = by_rows begun (row_of first event_rows) (row_of first setting_rows) words
 
@@ -46,7 +46,7 @@ abbrev pub item_of : Bool → List (List ℕ) → Result Item FaultKind
 item_of begun [] = Ok Nothing
 item_of begun (first ∷ words) = words_item begun first words
 
--- a line is tested for Byte; an empty one, one of spaces and one whose first byte is # for nothing else
+-- the item of a line; an empty line, a line of spaces and a comment (first byte #) are tested for Byte only
 unfoldable pub line_item : Bool → List ℕ → Result Item FaultKind
 line_item begun line =
     if not (list_all is_printable line) then Err kind.Byte
@@ -91,16 +91,16 @@ abbrev pub extent_of : Setting → Option (ℕ × ℕ × ℕ)
 extent_of (Extent start len block) = Some (start, len, block)
 extent_of _ = None
 
--- the settings that lines are, in their order
+-- the settings that lines give, in order
 unfoldable pub all_settings : List (List ℕ) → List Setting
 all_settings lines = filter_map (λ line. setting_of (line_item false line)) lines
 
--- what the last of the settings of one kind says
+-- what the last setting of one kind says
 abbrev pub last_one : {A : Type 0} → (Setting → Option A) → List Setting → Option A
 last_one says settings = slice_get (filter_map says (reverse settings)) 0
 
--- Each line with a zone, a bad slot, a region or an extent adds one. Of the lines with a last page, with tables and
--- with a signature the last one counts; the last page is 3000 where there is none, and the signature 0.
+-- Each line with a zone, a bad slot, a region or an extent adds one. Of the lines with a last page, tables or a
+-- signature, the last one counts; by default the last page is 3000 and the signature 0.
 abbrev pub by_kind : List Setting → SettingsValue
 by_kind settings = record {
   zones = filter_map zone_of settings;
@@ -123,7 +123,7 @@ events_of (Ok Nothing) = []
 events_of (Ok (Sets s)) = []
 events_of (Err k) = []
 
--- the events that lines give, in their order
+-- the events that lines give, in order
 unfoldable pub events_in : List (List ℕ) → List Event
 events_in lines = flat_map (λ line. events_of (line_item false line)) lines
 
@@ -133,11 +133,11 @@ events_in lines = flat_map (λ line. events_of (line_item false line)) lines
 abbrev pub too_many : List Event → List Event → Bool
 too_many before more = nat_lt 100000 (length before + length more)
 
--- the first of the events stands there
+-- the line has the script's first event
 abbrev pub begins : List Event → List Event → Bool
 begins before more = (length before == 0) && nat_lt 0 (length more)
 
--- the line of the first event is at fault where the settings before it describe no machine
+-- the line of the first event is at fault if the settings before it describe no machine
 abbrev pub kind_by : SettingsValue → List Event → Result Item FaultKind → Option FaultKind
 kind_by settings before (Err k) = Some k
 kind_by settings before (Ok item) =
@@ -149,11 +149,11 @@ abbrev pub stop_at : LineStop → ℕ → ParseStop
 stop_at stop.NoMemory line = parse_stop.NoMemory
 stop_at (stop.Fault k) line = parse_stop.Fault (record { line = line; kind = k })
 
--- how a line is at fault that stands after these settings and events
+-- the fault of a line after these settings and events, if it has one
 unfoldable pub kind_after : SettingsValue → List Event → List ℕ → Option FaultKind
 kind_after settings before line = kind_by settings before (line_item (nat_lt 0 (length before)) line)
 
--- the fault of the line that k lines stand before, if it has one
+-- the fault of the line after the first k lines, if it has one
 unfoldable pub fault_at : List (List ℕ) → ℕ → Option ScriptFault
 fault_at lines k =
     option_map (λ kind. record {
@@ -161,7 +161,7 @@ fault_at lines k =
       kind = kind;
     }) (kind_after (settings_in (take k lines)) (events_in (take k lines)) (slice_index_or lines k []))
 
--- the fault at the end of a script without events whose settings describe no machine, in a line after the last
+-- the fault of a script without events whose settings describe no machine: it is that of a line after the last
 abbrev pub end_fault : ℕ → SettingsValue → List Event → List ScriptFault
 end_fault line settings events =
     if (length events == 0) && is_faulty settings then (record { line = line; kind = kind.Hardware } ∷ []) else []
@@ -171,14 +171,14 @@ abbrev pub first_of : {A : Type 0} → List ScriptFault → A → Result A Scrip
 first_of [] value = Ok value
 first_of (fault ∷ faults) value = Err fault
 
--- the lines of a script end at LF. A last part without LF is one too; where it is empty it says nothing.
+-- the lines of a script, which end at LF. A last part without LF is a line too; an empty one says nothing.
 abbrev pub lines_of : List ℕ → List (List ℕ)
 lines_of bytes = slice_split (λ b. b == 10) bytes
 
 abbrev pub first_line : List ℕ → List ℕ
 first_line text = slice_index_or (lines_of text) 0 []
 
--- the lines of a text, where there is one
+-- the lines of a text, if there is one
 abbrev pub lines_in : Option (Bor (List ℕ)) → List (List ℕ)
 lines_in None = []
 lines_in (Some text) = lines_of text.now
@@ -198,7 +198,7 @@ abbrev pub script_by : SettingsValue → List Event → ScriptValue
 script_by settings events =
     record { hardware = hardware_by settings; last = settings.last; bad = settings.bad; events = events }
 
--- what lines say, where behind is the number of the line after the last
+-- what lines say; `behind` is the number of the line after the last
 unfoldable pub value_of : ℕ → List (List ℕ) → Result ScriptValue ScriptFault
 value_of behind lines =
     first_of (filter_map (fault_at lines) (range_with_len 0 (length lines))

@@ -1,4 +1,4 @@
--- What the functions that read a script's lines say, one by one, and what fits of it.
+-- What each of the functions that read a script's lines returns, and which values fit.
 use Rattle.std.specs.Prelude.{◌≡◌, ℕ, ◌-◌, ◌≤◌, List, Bool, Option, Some, None, Result, Ok, Err, ⊤, ◌+◌, All, [], ◌∷◌}
 use Rattle.std.specs.Prelude.{◌++◌}
 use Rattle.plain_machine.specs.declared.event.Event.{Event}
@@ -17,7 +17,7 @@ use Rattle.script.specs.Grammar.{row_of, by_rows}
 use Rattle.definitions.specs.Zones.{numbers}
 use Rattle.script.specs.declared.grammar.Setting.TheVariants.{Zone, Last, Bad, Region, Tables, Signature, Extent}
 
--- the settings after one more of them
+-- the settings after one more setting
 abbrev pub with_setting : Setting → SettingsValue → SettingsValue
 with_setting (Zone start count) s = record s { zones = s.zones ++ (start, count) ∷ [] }
 with_setting (Last last) s = record s { last = last }
@@ -50,17 +50,17 @@ pub record AreFitting (s : SettingsValue) : Type 0 where
   pub last : IsLastPage s.last
   pub bad : All (λ slot. 1 ≤ slot) s.bad
 
--- that, where the first word is no event's
+-- what the words of a line say if the first isn't an event's
 unfoldable pub setting_item : Bool → List ℕ → List (List ℕ) → Result Item FaultKind
 setting_item begun first words = by_rows begun None (row_of first setting_rows) words
 
--- what a line is, where its first word has a row
+-- what a line says, if its first word has a row
 abbrev pub if_found : {A : Type 0} → Option (Row A) → List (List ℕ) → Result (Option A) FaultKind
 if_found None words = Ok None
 if_found (Some row) words = row.reads words >>= λ s. Ok (Some s)
 
--- the row that a first word has among those of settings, of what a task asks for, of events of the machine, and of what
--- happens to it from outside
+-- the row of a first word among those of settings, of a task's requests, of events of the machine, and of what happens
+-- to it from outside
 unfoldable pub setting_found : List ℕ → Option (Row Setting)
 setting_found first = row_of first setting_rows
 
@@ -73,19 +73,19 @@ machine_found first = row_of first machine_rows
 unfoldable pub outside_found : List ℕ → Option (Row (ℕ × Event))
 outside_found first = row_of first outside_rows
 
--- the setting that a line is, where its first word is a setting's
+-- the setting that a line gives, if its first word is a setting's
 unfoldable pub setting_in : List ℕ → List (List ℕ) → Result (Option Setting) FaultKind
 setting_in first words = if_found (setting_found first) words
 
--- how many times which event a line is, where its first word is an event's
+-- the event that a line gives and how many times, if its first word is an event's
 unfoldable pub event_in : List ℕ → List (List ℕ) → Result (Option (ℕ × Event)) FaultKind
 event_in first words = if_found (row_of first event_rows) words
 
--- that, where it is an event of the whole machine, and where it is what a task asks for
+-- the same for events of the whole machine
 unfoldable pub core_event_in : List ℕ → List (List ℕ) → Result (Option (ℕ × Event)) FaultKind
 core_event_in first words = if_found (row_of first core_rows) words
 
--- of these, one of the machine, and one from outside or a step
+-- the same for events of the machine, for those from outside and steps, and for a task's requests
 unfoldable pub machine_event_in : List ℕ → List (List ℕ) → Result (Option (ℕ × Event)) FaultKind
 machine_event_in first words = if_found (machine_found first) words
 
@@ -95,7 +95,7 @@ outside_event_in first words = if_found (outside_found first) words
 unfoldable pub task_event_in : List ℕ → List (List ℕ) → Result (Option (ℕ × Event)) FaultKind
 task_event_in first words = if_found (task_found first) words
 
--- the answer is that of the grammar, unless memory ran out
+-- a stop gives the grammar's fault, unless memory ran out
 abbrev pub Stops : LineStop → Result Item FaultKind → Type 0
 Stops stop.NoMemory answer = ⊤
 Stops (stop.Fault k) answer = answer ≡ Err k
@@ -112,7 +112,7 @@ settings_behind (Ok (Events n e)) settings = settings
 settings_behind (Ok Nothing) settings = settings
 settings_behind (Err k) settings = settings
 
--- a line stops by this fault, or by want of memory
+-- a line stops by this fault, or for lack of memory
 abbrev pub StopsBy : Option FaultKind → LineStop → Type 0
 StopsBy fault stop.NoMemory = ⊤
 StopsBy fault (stop.Fault k) = fault ≡ Some k

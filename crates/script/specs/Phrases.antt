@@ -1,4 +1,4 @@
--- The texts of replies, by the words and numbers that they are put together of.
+-- The texts of replies, by the words and numbers that make them up.
 use Rattle.std.specs.Prelude.{◌≤◌, ◌+◌, ◌++◌, ⊤, ℕ, List, codes, decimal, length}
 use Rattle.plain_machine.specs.Replies.{booted_text, call_text, field_text, left_text, no_swap_text, one, two}
 use Rattle.script.specs.declared.phrases.Phrase.{Phrase}
@@ -16,7 +16,7 @@ phrase_text (phrase.NoSwap why) = no_swap_text why.now
 phrase_text (phrase.Mismatch field) = codes "mismatch " ++ field_text field
 phrase_text (phrase.Fault name left) = name.now ++ left_text left
 
--- the words leave room for the numbers in a line
+-- the words leave room for the numbers on the line
 abbrev pub IsShort : Phrase → Type 0
 IsShort (phrase.Words words) = length words.now ≤ 40
 IsShort (phrase.One name n) = length name.now ≤ 40

@@ -13,13 +13,13 @@ pub record Reading : Type 0 where
   pub hardware : Option Hardware
   pub events : List Event
 
--- the hardware of settings that describe one, where an event stands
+-- the hardware that the settings describe, once there is an event
 pub record IsSettled (r : Reading) (h : Hardware) : Type 0 where
   pub begun : 0 < length r.events
   pub hardware : h ≡ hardware_by r.settings
   pub sound : is_faulty r.settings ≡ false
 
--- what is read is what lines may give, and the hardware is known just where there is an event
+-- everything read is what lines may give, and the hardware is known if and only if there is an event
 pub record IsOfLines (r : Reading) : Type 0 where
   pub settings : AreFitting r.settings
   pub few : length r.events ≤ 100000

@@ -22,7 +22,7 @@ scripted_ident = record {
       ∷ filled_name (codes "plain") ∷ filled_name (codes "(none)") ∷ [];
 }
 
--- What the lines with a setting say. Of zones, bad slots, regions and extents each line names one; there may be none.
+-- What the lines with settings say. Each line names one zone, bad slot, region or extent; there may be none.
 pub record SettingsValue : Type 0 where
   pub zones : List (ℕ × ℕ)
   pub last : ℕ

@@ -35,23 +35,23 @@ use Rattle.std.specs.Char.{is_ascii_digit}
 use Rattle.std.specs.Str.Parse.{digits_value}
 use denote.Ref.{Bor}
 
--- The words of a line of a script, and the numbers that they are.
+-- The words of a line of a script, and the numbers that they stand for.
 
--- what comes of the value, or the first fault
+-- `f` of the value, or the first fault
 infixl 10 ◌>>=◌
 abbrev pub ◌>>=◌ : {A B : Type 0} → Result A FaultKind → (A → Result B FaultKind) → Result B FaultKind
 (Ok x) >>= f = f x
 (Err kind) >>= f = Err kind
 
--- words wherever they lie
+-- the words, wherever they are stored
 abbrev pub texts : List (Bor (List ℕ)) → List (List ℕ)
 texts words = map (λ word. word.now) words
 
--- two spaces have no word between them
+-- a word isn't empty: there is no word between two spaces
 abbrev pub is_word : List ℕ → Bool
 is_word part = not (length part == 0)
 
--- what stands between spaces
+-- the parts of a line between spaces
 abbrev pub words_of : List ℕ → List (List ℕ)
 words_of line = filter is_word (slice_split (λ b. b == 32) line)
 
@@ -109,7 +109,7 @@ unfoldable pub ranges_in : List (List ℕ) → Result (List (ℕ × ℕ)) FaultK
 ranges_in [] = Ok []
 ranges_in (word ∷ words) = range_in word >>= λ range. ranges_in words >>= λ ranges. Ok (range ∷ ranges)
 
--- a loader's ranges: those that are named, and (0, 0) in the places after them
+-- a loader's ranges: the given ones, and (0, 0) in the places after them
 abbrev pub ranges_of : List (ℕ × ℕ) → Ranges
 ranges_of ranges = record { count = length ranges; list = ranges ++ replicate (8 - length ranges) (0, 0) }
 
@@ -122,12 +122,12 @@ pub record Row (A : Type 0) : Type 0 where
   pub first : List ℕ
   pub reads : List (List ℕ) → Result A FaultKind
 
--- the words after one that must stand first
+-- the words after the first, which must be `second`
 abbrev pub second_word : List ℕ → List (List ℕ) → Result (List (List ℕ)) FaultKind
 second_word second [] = Err kind.Count
 second_word second (word ∷ words) = if bytes_eq word second then Ok words else Err kind.Word
 
--- numbers of these spans, and what they say
+-- what the numbers of these spans say
 abbrev pub numbers_say : {A : Type 0} → List Span → (List ℕ → A) → List (List ℕ) → Result A FaultKind
 numbers_say spans says words = all_numbers spans words >>= λ n. Ok (says n)
 
@@ -139,7 +139,7 @@ span low high = record { low = low; high = high }
 
 -- The settings.
 
--- page frames, and how many of them; the last page of an area, its slots, and how many of them
+-- page frames, and their count; the last page of an area, its slots, and their count
 abbrev pub frames : Span
 frames = span 0 65535
 
@@ -187,7 +187,7 @@ setting_rows =
     map setting_row
     (setting.Zone ∷ setting.Area ∷ setting.Bad ∷ setting.Region ∷ setting.Tables ∷ setting.Hwsig ∷ setting.Extent ∷ [])
 
--- The events. A line says how many times an event.
+-- The events. A line says an event and how many times it happens.
 
 -- the tasks, the words of a page, and any number
 abbrev pub tasks : Span
@@ -202,7 +202,7 @@ values = span 0 18446744073709551615
 abbrev pub event_row : List ℕ → List Span → (List ℕ → Event) → Row (ℕ × Event)
 event_row first spans says = number_row first spans (λ n. (1, says n))
 
--- the number of the task, and then what it asks for
+-- the number of the task, and then its request
 abbrev pub task_row : List ℕ → List Span → (List ℕ → TaskOp) → Row (ℕ × Event)
 task_row first spans asks = event_row first (tasks ∷ spans) (λ n. event.Task (slice_index n 0) (asks n))
 
@@ -221,14 +221,14 @@ actor_in (word ∷ words) =
 abbrev pub step_row : Row (ℕ × Event)
 step_row = record { first = codes "step"; reads = λ line. actor_in line >>= λ x. Ok (1, event.Step x) }
 
--- so many steps of the core
+-- steps of the core, as many as the numbers say
 abbrev pub core_row : List ℕ → List Span → (List ℕ → ℕ) → Row (ℕ × Event)
 core_row first spans times = record {
   first = first;
   reads = λ line. second_word (codes "core") line >>= numbers_say spans (λ n. (times n, event.Step actor.Core));
 }
 
--- pages as they are, or those that are all zero left out
+-- the format of pages: as they are, or without those that are all zero
 abbrev pub format_in : List (List ℕ) → Result Format FaultKind
 format_in [] = Ok Plain
 format_in (word ∷ words) = second_word (codes "zeros") (word ∷ words) >>= numbers_say [] (λ n. SkipZeros)
@@ -254,7 +254,7 @@ machine_row machine.Settle = event_row (codes "settle") [] (λ n. event.Settle)
 machine_row machine.Shrink = event_row (codes "shrink") (values ∷ []) (λ n. event.Shrink (slice_index n 0))
 machine_row machine.Resume = resume_row
 
--- of what happens to it from outside or step by step
+-- the same for what happens to the machine from outside, and for steps
 abbrev pub outside_row : OutsideWord → Row (ℕ × Event)
 outside_row outside.Cut = event_row (codes "cut") (values ∷ []) (λ n. event.Cut (slice_index n 0))
 outside_row outside.Arm =
@@ -263,7 +263,7 @@ outside_row outside.Arm =
 outside_row outside.Step = step_row
 outside_row outside.Steps = core_row (codes "steps") (span 1 100000 ∷ []) (λ n. slice_index n 0)
 
--- and of what a task asks for
+-- the same for a task's requests
 abbrev pub asking_row : TaskWord → Row (ℕ × Event)
 asking_row task.Claim = task_row (codes "claim") (frames ∷ []) (λ n. op.Claim (slice_index n 1))
 asking_row task.Release = task_row (codes "release") (frames ∷ []) (λ n. op.Release (slice_index n 1))
@@ -298,7 +298,7 @@ task_rows =
 abbrev pub event_rows : List (Row (ℕ × Event))
 event_rows = task_rows ++ core_rows
 
--- a scripted loader holds ranges of page frames: no line names a dump's
+-- a scripted loader holds ranges of page frames: no line names the loader of a dump
 abbrev pub IsScriptedLoader : Loader → Type 0
 IsScriptedLoader (loader.Ranges ranges) = ⊤
 IsScriptedLoader loader.Table = ⊥

@@ -15,20 +15,20 @@ use page_core::{Format, NoMemory};
 use plain_machine::{Actor, BootFrom, Event, IdentCheck, Loader, Ranges, TaskOp};
 use std::alloc::{AllocError, Global};
 
-/// At most so many page frames are swapped out.
+/// The most page frames that are swapped out.
 const MOST_SWAPPED: u32 = 8;
 
-/// How many page frames the two tables take.
+/// The page frames that the two tables take.
 const TABLE_FRAMES: u32 = 24;
 
-/// The run of drill `number`: a machine of 8192 page frames and 16,384 slots, and events that claim `number` page
+/// Makes the run of drill `number`: a machine of 8192 page frames and 16,384 slots, and events that claim `number` page
 /// frames, swap some out, hibernate, cut the power, resume and show what was stored.
 pub fn generate(alloc: Global, number: u32) -> Result<Script, NoMemory>
     requires some { 1 ≤ number }
     requires few { number ≤ 2000 }
     ensures script { IfOk result (λ script. script ≡ drill_script number) }
 
-    // As of a script that is read.
+    // The same holds of a script that is read.
     ensures few_bad { IfOk result (λ script. length script.bad ≤ 630) }
     ensures fits { IfOk result (λ script. All IsFitting script.events) }
     ensures scripted { IfOk result (λ script. All IsScripted script.events) }
@@ -82,7 +82,7 @@ fn events(alloc: Global, number: u32) -> Result<Vec<Event>, AllocError>
     Ok(events)
 }
 
-/// How many page frames are swapped out.
+/// Returns how many page frames are swapped out.
 fn swapped(number: u32) -> u32
     ensures count { result ≡ swapped number }
     ensures few { result ≤ 8 }
@@ -94,7 +94,7 @@ fn swapped(number: u32) -> u32
     }
 }
 
-/// The number of the `i`-th page frame.
+/// Returns the number of the `i`-th page frame.
 fn frame(i: u32) -> u32
     requires { i < 2000 }
     ensures { result ≡ 100 + 2 * i }
@@ -102,14 +102,14 @@ fn frame(i: u32) -> u32
     100 + 2 * i
 }
 
-/// What the task of the `i`-th page frame asks for.
+/// Returns the event in which the task of the `i`-th page frame requests `op`.
 fn asks(i: u32, op: TaskOp) -> Event
     ensures { result ≡ asks i op }
 {
     Event::Task(1 + i % 64, op)
 }
 
-/// That task's step.
+/// Returns the step of the task of the `i`-th page frame.
 fn step(i: u32) -> Event
     ensures { result ≡ steps i }
 {
@@ -151,14 +151,14 @@ fn take_in(i: u32) -> Event
     asks(i, TaskOp::TakeIn(i + 1, frame(i)))
 }
 
-/// What drill `number` stores into the `i`-th page frame.
+/// Returns what drill `number` stores into the `i`-th page frame.
 fn value(number: u32, i: u32) -> u64
     ensures value { result ≡ value number i }
 {
     1000003 * u64::from(number) + 7919 * u64::from(i)
 }
 
-/// How many pages the stream of the image has.
+/// Returns how many pages the stream of the image has.
 fn pages(number: u32) -> u32
     requires { number ≤ 2000 }
     ensures pages { result ≡ pages number }
@@ -193,7 +193,8 @@ fn add_claims(events: &mut Vec<Event>, number: u32) -> Result<(), AllocError>
     Ok(())
 }
 
-/// The pages of some page frames go out, the last one first to be written, and the page frames are stored into again.
+/// Adds the events in which the first `count` page frames go out, the last one written first, and are stored into
+/// again.
 fn swap_out(events: &mut Vec<Event>, number: u32, count: u32) -> Result<(), AllocError>
     requires { count ≤ 2000 }
     ensures { OnOk result (events.new.items ≡ events.old.items ++ gone_out number count) }
@@ -203,7 +204,7 @@ fn swap_out(events: &mut Vec<Event>, number: u32, count: u32) -> Result<(), Allo
     add_stores(events, number, count)
 }
 
-/// They come in again, and are shown.
+/// Adds the events in which the first `count` pages come in again and are shown.
 fn swap_in(events: &mut Vec<Event>, count: u32) -> Result<(), AllocError>
     requires { count ≤ 2000 }
     ensures { OnOk result (events.new.items ≡ events.old.items ++ taken_in count) }
@@ -232,7 +233,7 @@ fn add_last_steps_first(events: &mut Vec<Event>, count: u32) -> Result<(), Alloc
     Ok(())
 }
 
-/// Stores one more than was stored before.
+/// Adds stores of one more than was stored before.
 fn add_stores(events: &mut Vec<Event>, number: u32, count: u32) -> Result<(), AllocError>
     requires { count ≤ 2000 }
     ensures { OnOk result (events.new.items ≡ events.old.items
@@ -253,7 +254,7 @@ fn add_hibernation(events: &mut Vec<Event>, pages: u32) -> Result<(), AllocError
     add_core_steps(events, pages + (pages / 511 + 1) + 4)
 }
 
-/// Cuts the power and resumes.
+/// Adds a power cut and a resume.
 fn add_resume(events: &mut Vec<Event>, pick: u32, pages: u32) -> Result<(), AllocError>
     requires { pages ≤ 3000 }
     ensures { OnOk result (events.new.items ≡ events.old.items ++ Event.Cut pick
@@ -264,7 +265,7 @@ fn add_resume(events: &mut Vec<Event>, pick: u32, pages: u32) -> Result<(), Allo
     add_core_steps(events, 4 + (pages + 510) / 511 + pages)
 }
 
-/// The page frames that the loader holds.
+/// Returns the page frames that the loader holds.
 fn held_by_loader() -> Ranges
     ensures { result ≡ loader_ranges }
 {

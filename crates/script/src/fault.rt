@@ -7,21 +7,21 @@ use thiserror::Error;
 #[derive(Clone, Copy, Debug, PartialEq, Eq, Error)]
 #[error("script line {line} {kind:?}")]
 pub struct ScriptFault {
-    /// The line's number, from 1 on. It is 0 for a script that is too long.
+    /// The line's number, from 1 on, or 0 if the script is too long.
     pub line: u32,
     pub kind: FaultKind,
 }
 
-/// How a script is at fault. In a line the first that applies is named, in this order.
+/// How a script is at fault. Of a line the first fault that applies is named, in this order.
 #[derive(Clone, Copy, Debug, PartialEq, Eq)]
 pub enum FaultKind {
     /// The script has more than 1,048,576 bytes.
     TooLong,
     /// A byte is neither LF nor one from 32 to 126.
     Byte,
-    /// The first word is unknown, or the word that must follow it isn't the second.
+    /// The first word is unknown, or a second word isn't the one that must follow it.
     Word,
-    /// A setting stands after an event.
+    /// A setting follows an event.
     Late,
     /// Too many or too few words follow the first.
     Count,
@@ -45,7 +45,7 @@ pub enum ParseStop {
 }
 
 impl FaultKind {
-    /// The name that a note prints.
+    /// Returns the name that a note prints.
     pub fn name(self) -> &'static str
         ensures { result.now ≡ kind_name self }
     {

@@ -27,7 +27,7 @@ pub enum MachineWord {
     Resume,
 }
 
-/// The first word of what happens to the machine from outside, and of steps.
+/// The first word of an event that happens to the machine from outside, or of steps.
 #[derive(Clone, Copy)]
 pub enum OutsideWord {
     Cut,
@@ -36,7 +36,7 @@ pub enum OutsideWord {
     Steps,
 }
 
-/// The first word of what a task asks for.
+/// The first word of a task's request.
 #[derive(Clone, Copy)]
 pub enum TaskWord {
     Claim,
@@ -48,7 +48,7 @@ pub enum TaskWord {
     In,
 }
 
-/// The setting that a line begins with, by its first word.
+/// Returns the setting whose first word this is.
 #[tactic(auto, unfolding(crate::specs::Items::setting_found))]
 pub fn setting_word(first: &[u8]) -> Option<SettingWord>
     ensures { setting_found first.now ≡ option_map setting_row result }
@@ -65,7 +65,7 @@ pub fn setting_word(first: &[u8]) -> Option<SettingWord>
     }
 }
 
-/// The event of the whole machine that a line begins with, by its first word.
+/// Returns the event of the whole machine whose first word this is.
 #[tactic(auto, unfolding(crate::specs::Items::machine_found))]
 pub fn machine_word(first: &[u8]) -> Option<MachineWord>
     ensures { machine_found first.now ≡ option_map machine_row result }
@@ -82,7 +82,7 @@ pub fn machine_word(first: &[u8]) -> Option<MachineWord>
     }
 }
 
-/// What happens from outside, or the steps, by a line's first word.
+/// Returns the outside event, or the steps, whose first word this is.
 #[tactic(auto, unfolding(crate::specs::Items::outside_found))]
 pub fn outside_word(first: &[u8]) -> Option<OutsideWord>
     ensures { outside_found first.now ≡ option_map outside_row result }
@@ -96,7 +96,7 @@ pub fn outside_word(first: &[u8]) -> Option<OutsideWord>
     }
 }
 
-/// What a task asks for, by a line's second part's first word.
+/// Returns the task's request whose first word this is.
 #[tactic(auto, unfolding(crate::specs::Items::task_found))]
 pub fn task_word(first: &[u8]) -> Option<TaskWord>
     ensures { task_found first.now ≡ option_map asking_row result }

@@ -20,7 +20,7 @@ use page_core::Format;
 use plain_machine::{Actor, BootFrom, Event, IdentCheck, Loader, TaskOp};
 use std::alloc::AllocError;
 
-// The numbers that may stand in the places of a line.
+// The numbers that each place of a line may have.
 const FRAME: Span = Span {
     low: 0,
     high: 65_535,
@@ -85,10 +85,10 @@ const CALLS: Span = Span {
 /// What a line says.
 #[derive(Clone, Copy)]
 pub enum Item {
-    /// It is empty, of spaces or a comment.
+    /// The line is empty, of spaces or a comment.
     Nothing,
     Sets(Setting),
-    /// So many times an event.
+    /// An event, and how many times it happens.
     Events(u32, Event),
 }
 
@@ -140,7 +140,7 @@ impl From<FaultKind> for LineStop {
     }
 }
 
-/// What a line says by its first words, where `begun` tells that an event stands before it.
+/// Reads what a line says from its first words. `begun` says whether an event stands before it.
 #[tactic(auto, unfolding(crate::specs::Grammar::line_item))]
 pub fn item_of_line(line: &[u8], words: &[&[u8]], begun: bool) -> Result<Item, FaultKind>
     requires printable { list_all is_printable line.now ≡ true }
@@ -157,7 +157,7 @@ pub fn item_of_line(line: &[u8], words: &[&[u8]], begun: bool) -> Result<Item, F
     }
 }
 
-/// That no event stands before a setting.
+/// Refuses a setting after the first event.
 fn before_events(begun: bool) -> Result<(), FaultKind>
     ensures ok { IsOk result ↔ (begun ≡ false) }
     ensures late { IfErr result (λ kind. kind ≡ FaultKind.Late) }
@@ -165,7 +165,7 @@ fn before_events(begun: bool) -> Result<(), FaultKind>
     if begun { Err(FaultKind::Late) } else { Ok(()) }
 }
 
-/// The words after one that must stand first.
+/// Returns the words after the first, which must be `word`.
 fn behind<'a>(word: &[u8], words: &'a [&'a [u8]]) -> Result<&'a [&'a [u8]], FaultKind>
     ensures ok { IfOk result (λ rest. second_word word.now (texts words.now) ≡ Ok (texts rest.now)) }
     ensures err { IfErr result (λ kind. second_word word.now (texts words.now) ≡ Err kind) }
@@ -189,7 +189,7 @@ fn task(t: u64, op: TaskOp) -> (u32, Event)
     (1, Event::Task(t as u32, op))
 }
 
-/// Whose step it is, by the words after `step`: the core's, or that of a task by its number.
+/// Reads the actor from the words after `step`: the core, or a task by its number.
 fn actor(words: &[&[u8]]) -> Result<Actor, FaultKind>
     ensures says { result ≡ actor_in (texts words.now) }
     ensures fits { IfOk result IsFittingActor }
@@ -207,7 +207,7 @@ fn actor(words: &[&[u8]]) -> Result<Actor, FaultKind>
     }
 }
 
-/// How pages are to be written, by the words after `hibernate` or `suspend`.
+/// Reads the format of the image's pages from the words after `hibernate` or `suspend`.
 fn format(words: &[&[u8]]) -> Result<Format, FaultKind>
     ensures { result ≡ format_in (texts words.now) }
 {
@@ -218,7 +218,7 @@ fn format(words: &[&[u8]]) -> Result<Format, FaultKind>
     Ok(Format::SkipZeros)
 }
 
-/// A region, whose flags are even.
+/// Reads a region, whose flags are even.
 fn region(words: &[&[u8]]) -> Result<Setting, FaultKind>
     ensures says { result ≡ region_row.reads (texts words.now) }
     ensures fits { IfOk result IsFittingSetting }
@@ -231,7 +231,7 @@ fn region(words: &[&[u8]]) -> Result<Setting, FaultKind>
     }
 }
 
-/// What the words of a line say, by the first of them.
+/// Reads what the words of a line say, by the first of them.
 fn item_of_words(first: &[u8], rest: &[&[u8]], begun: bool) -> Result<Item, FaultKind>
     ensures says { result ≡ words_item begun first.now (texts rest.now) }
     ensures fits { IfOk result IsFittingItem }
@@ -242,7 +242,7 @@ fn item_of_words(first: &[u8], rest: &[&[u8]], begun: bool) -> Result<Item, Faul
     }
 }
 
-/// What the words of a line say whose first is no event's.
+/// Reads what the words of a line say if the first isn't an event's.
 fn item_of_setting(first: &[u8], rest: &[&[u8]], begun: bool) -> Result<Item, FaultKind>
     ensures says { result ≡ setting_item begun first.now (texts rest.now) }
     ensures fits { IfOk result IsFittingItem }
@@ -260,7 +260,7 @@ fn item_of_setting(first: &[u8], rest: &[&[u8]], begun: bool) -> Result<Item, Fa
     }
 }
 
-/// The setting that a line is, where its first word is a setting's.
+/// Reads a line as a setting, if its first word is a setting's.
 #[tactic(auto, unfolding(crate::specs::Items::setting_in))]
 fn setting_of(first: &[u8], rest: &[&[u8]]) -> Result<Option<Setting>, FaultKind>
     ensures says { result ≡ setting_in first.now (texts rest.now) }
@@ -298,7 +298,7 @@ fn setting_of(first: &[u8], rest: &[&[u8]]) -> Result<Option<Setting>, FaultKind
     }
 }
 
-/// How many times which event a line is, where its first word is an event's.
+/// Reads a line as an event and how many times it happens, if its first word is an event's.
 fn events_of(first: &[u8], rest: &[&[u8]]) -> Result<Option<(u32, Event)>, FaultKind>
     ensures says { result ≡ event_in first.now (texts rest.now) }
     ensures fits { IfOk result (λ events. IfSome events (λ e. IsFittingItem (Item.Events e.0 e.1))) }
@@ -309,7 +309,7 @@ fn events_of(first: &[u8], rest: &[&[u8]]) -> Result<Option<(u32, Event)>, Fault
     }
 }
 
-/// How many times which event of the whole machine a line is, where its first word is such an event's.
+/// Reads a line as an event of the whole machine and how many times it happens, if its first word is such an event's.
 fn core_events_of(first: &[u8], rest: &[&[u8]]) -> Result<Option<(u32, Event)>, FaultKind>
     ensures says { result ≡ core_event_in first.now (texts rest.now) }
     ensures fits { IfOk result (λ events. IfSome events (λ e. IsFittingItem (Item.Events e.0 e.1))) }
@@ -320,7 +320,7 @@ fn core_events_of(first: &[u8], rest: &[&[u8]]) -> Result<Option<(u32, Event)>, 
     }
 }
 
-/// What the machine as a whole is to do.
+/// Reads a line as an event that the machine as a whole is to take.
 #[tactic(auto, unfolding(crate::specs::Items::machine_event_in))]
 fn machine_events_of(first: &[u8], rest: &[&[u8]]) -> Result<Option<(u32, Event)>, FaultKind>
     ensures says { result ≡ machine_event_in first.now (texts rest.now) }
@@ -355,7 +355,7 @@ fn machine_events_of(first: &[u8], rest: &[&[u8]]) -> Result<Option<(u32, Event)
     }
 }
 
-/// What happens to it from outside, and its steps and those of tasks.
+/// Reads a line as an event from outside, or as steps of the core or a task.
 #[tactic(auto, unfolding(crate::specs::Items::outside_event_in))]
 fn outside_events_of(first: &[u8], rest: &[&[u8]]) -> Result<Option<(u32, Event)>, FaultKind>
     ensures says { result ≡ outside_event_in first.now (texts rest.now) }
@@ -382,7 +382,7 @@ fn outside_events_of(first: &[u8], rest: &[&[u8]]) -> Result<Option<(u32, Event)
     }
 }
 
-/// What a task asks for, where that is the line.
+/// Reads a line as a task's request.
 #[tactic(auto, unfolding(crate::specs::Items::task_event_in))]
 fn task_event_of(first: &[u8], rest: &[&[u8]]) -> Result<Option<(u32, Event)>, FaultKind>
     ensures says { result ≡ task_event_in first.now (texts rest.now) }

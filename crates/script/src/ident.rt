@@ -3,7 +3,7 @@ ghost use Rattle.script.specs.Settings.{scripted_ident, filled_name};
 
 use definitions::Ident;
 
-/// The identity of scripted machines: Linux 6.1.0 on `plain`.
+/// Returns the identity of scripted machines: Linux 6.1.0 on `plain`.
 #[tactic(auto, unfolding(crate::specs::Settings::scripted_ident))]
 pub fn scripted_ident() -> Ident
     ensures { result ≡ scripted_ident }
@@ -21,7 +21,7 @@ pub fn scripted_ident() -> Ident
     }
 }
 
-/// A name, filled with zero bytes.
+/// Returns a name padded with zero bytes.
 fn name(text: &[u8]) -> [u8; 65]
     requires { length text.now ≤ 65 }
     ensures { result ≡ filled_name text.now }

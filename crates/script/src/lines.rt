@@ -6,19 +6,19 @@ ghost use Rattle.script.specs.Shapes.{is_word, texts, words_of};
 use crate::fault::FaultKind;
 use arrayvec::ArrayVec;
 
-/// One word more than a line may have.
+/// One more than the most words that a line may have.
 pub const MAX_WORDS: usize = 10;
 
 /// The first line of a text.
 #[derive(Clone, Copy)]
 pub struct FirstLine<'a> {
     pub line: &'a [u8],
-    /// The text after its LF, where it has one.
+    /// The text after the line's LF, if it has one.
     pub behind: Option<&'a [u8]>,
 }
 
 /// Takes the first line off a text, and puts its first words, which stand between spaces, into an empty list. A line
-/// that says something has fewer than fit.
+/// that says something has fewer words than fit.
 pub fn first_line<'a>(
     text: &'a [u8],
     words: &mut ArrayVec<&'a [u8], MAX_WORDS>,
@@ -54,7 +54,7 @@ pub fn first_line<'a>(
     })
 }
 
-/// Adds a word, unless it is empty or no more fit.
+/// Adds a word, unless it is empty or the list is full.
 fn push_word<'a>(word: &'a [u8], words: &mut ArrayVec<&'a [u8], MAX_WORDS>)
     ensures { texts words.new.items ≡ take 10 (texts words.old.items ++ filter is_word (word.now ∷ [])) }
 {

@@ -5,10 +5,10 @@ ghost use Rattle.script.specs.Phrases.{IsShort, phrase_text};
 use definitions::Field;
 use plain_machine::{Left, NoSwap, Reply, UndoCall};
 
-/// What the text of a reply is put together of. A name ends in a space.
+/// The words and numbers that make up the text of a reply. A name ends in a space.
 #[derive(Clone, Copy)]
 pub enum Phrase<'a> {
-    /// Words alone.
+    /// Only words.
     Words(&'a [u8]),
     /// A name and a number.
     One(&'a [u8], u32),
@@ -24,7 +24,7 @@ pub enum Phrase<'a> {
     Fault(&'a [u8], Left),
 }
 
-/// The text of a reply.
+/// Returns the phrase whose text is that of the reply.
 #[tactic(auto, unfolding(plain_machine::specs::Replies::reply_text))]
 pub fn phrase_of(reply: &Reply) -> Phrase<'_>
     ensures text { phrase_text result ≡ reply_text reply.now }

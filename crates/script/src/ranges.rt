@@ -8,13 +8,13 @@ use crate::fault::FaultKind;
 use crate::words::number_of;
 use plain_machine::Ranges;
 
-/// How many ranges a loader may have.
+/// The most ranges that a loader may have.
 const MAX_RANGES: usize = 8;
 
 /// The highest page frame number.
 const LAST_FRAME: u64 = 65_535;
 
-/// The ranges of page frames that the words are.
+/// Reads the words as ranges of page frames.
 pub fn ranges(words: &[&[u8]]) -> Result<Ranges, FaultKind>
     ensures ranges { result ≡ all_ranges (texts words.now) }
     ensures fits { IfOk result AreRanges }
@@ -32,7 +32,7 @@ pub fn ranges(words: &[&[u8]]) -> Result<Ranges, FaultKind>
     })
 }
 
-/// A range of page frames: its ends, and a dash between them.
+/// Reads a range of page frames: its ends, with a dash between them.
 #[tactic(auto, unfolding(crate::specs::Shapes::range_in))]
 fn range(word: &[u8]) -> Result<(u32, u32), FaultKind>
     ensures range { result ≡ range_in word.now }
@@ -44,14 +44,14 @@ fn range(word: &[u8]) -> Result<(u32, u32), FaultKind>
     ordered(low, high)
 }
 
-/// Where the first dash of a word stands.
+/// Returns where the first dash of a word stands.
 fn dash(word: &[u8]) -> Option<usize>
     ensures { result ≡ position (λ b. b == 45) word.now }
 {
     word.iter().position(|b| *b == b'-')
 }
 
-/// The page frames from `low` to `high`.
+/// Returns the range of the page frames from `low` to `high`.
 fn ordered(low: u64, high: u64) -> Result<(u32, u32), FaultKind>
     ensures range { result ≡ as_range (Some low) (Some high) }
     ensures fits { IfOk result IsRange }

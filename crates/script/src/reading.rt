@@ -21,10 +21,10 @@ use plain_machine::Event;
 use std::alloc::Global;
 use std::marker::Model;
 
-/// How many bytes a script may have.
+/// The most bytes that a script may have.
 const MAX_BYTES: usize = 1_048_576;
 
-/// How many events a script may have.
+/// The most events that a script may have.
 const MAX_EVENTS: usize = 100_000;
 
 /// A script: the machine that its settings describe, and its events.
@@ -45,28 +45,28 @@ impl Model for Script {
 }
 
 impl Script {
-    /// The hardware of the machine.
+    /// Returns the hardware of the machine.
     pub fn hardware(&self) -> &Hardware
         ensures { result.now ≡ self.now.hardware }
     {
         &self.hardware
     }
 
-    /// The last page of the swap area.
+    /// Returns the last page of the swap area.
     pub fn last(&self) -> u32
         ensures { result ≡ self.now.last }
     {
         self.last
     }
 
-    /// The slots of the swap area that can't be used, in the order of their lines.
+    /// Returns the slots of the swap area that can't be used, in the order of their lines.
     pub fn bad(&self) -> &[u32]
         ensures { result.now ≡ self.now.bad }
     {
         self.bad.as_slice()
     }
 
-    /// The events, in their order.
+    /// Returns the events, in order.
     pub fn events(&self) -> &[Event]
         ensures { result.now ≡ self.now.events }
     {
@@ -74,7 +74,7 @@ impl Script {
     }
 }
 
-/// A script as far as it is read. The hardware is known from the first event on.
+/// A script as far as it has been read. The hardware is known from the first event on.
 #[derive(Drop)]
 struct Reader {
     settings: Settings,
@@ -93,7 +93,7 @@ impl Model for Reader {
 impl Reader {
     ghost use Rattle.script.specs.Grammar.{by_kind};
 
-    /// Nothing is read.
+    /// Makes a reader that has read nothing.
     fn new(alloc: Global) -> Reader
         ensures settings { result.settings ≡ by_kind [] }
         ensures events { result.events ≡ [] }
@@ -106,8 +106,8 @@ impl Reader {
         }
     }
 
-    /// Settles the hardware, where the settings describe a machine. It is large, and stands apart so that the first
-    /// event alone pays for its room.
+    /// Settles the hardware, if the settings describe a machine. This is a function of its own because the hardware is
+    /// large, so that only the first event pays for its room.
     #[inline(never)]
     fn settle(&mut self) -> Result<(), FaultKind>
         requires { IsOfLines self.old }
@@ -119,7 +119,7 @@ impl Reader {
         Ok(())
     }
 
-    /// Adds so many times an event. The first of all needs settings that describe a machine.
+    /// Adds an event `count` times. The first event of a script needs settings that describe a machine.
     fn add_events(&mut self, count: u32, event: Event) -> Result<(), LineStop>
         requires fits { IsFittingItem (Item.Events count event) }
         requires reading { IsOfLines self.old }
@@ -159,7 +159,7 @@ impl Reader {
         }
     }
 
-    /// Adds what the first line of a text says, and gives the text after it, where there is one.
+    /// Adds what the first line of a text says, and returns the text after it, if there is any.
     fn read<'a>(&mut self, text: &'a [u8]) -> Result<Option<&'a [u8]>, LineStop>
         requires { IsOfLines self.old }
         ensures settings { OnOk result (self.new.settings ≡ settings_behind (line_item false (first_line text.now))
@@ -178,7 +178,7 @@ impl Reader {
         Ok(first.behind)
     }
 
-    /// What the script is read as, where its settings describe a machine.
+    /// Returns the script that was read, if its settings describe a machine.
     fn finish(self) -> Option<Script>
         requires { IsOfLines self }
         ensures script { IfSome result (λ script. script ≡ script_by self.settings self.events) }
@@ -203,7 +203,7 @@ impl Reader {
 }
 
 impl LineStop {
-    /// The stop of a script whose line of this number stops.
+    /// Returns the stop of a script that stops at this line.
     fn at(self, line: u32) -> ParseStop
         ensures { result ≡ stop_at self line }
     {
@@ -214,7 +214,7 @@ impl LineStop {
     }
 }
 
-/// How many lines a script has.
+/// Returns how many lines a script has.
 #[tactic(auto, unfolding(crate::specs::Grammar::line_count))]
 fn line_count(bytes: &[u8]) -> u32
     requires { length bytes.now ≤ 1048576 }
@@ -228,12 +228,12 @@ fn line_count(bytes: &[u8]) -> u32
     }
 }
 
-/// What a script says. Its first fault is named.
+/// Reads a script. On a fault, names the first.
 pub fn parse(alloc: Global, bytes: &[u8]) -> Result<Script, ParseStop>
     ensures script { IfOk result (λ script. script_of bytes.now ≡ Ok script) }
     ensures fault { (fault : ScriptFault) → result ≡ Err (ParseStop.Fault fault) → script_of bytes.now ≡ Err fault }
 
-    // The last page and the bad slots are those that an area may have, which is the machine's, and each event is one
+    // The last page and the bad slots are ones that an area may have, the area is the machine's, and each event is one
     // that the machine takes and that a line may give.
     ensures slots { IfOk result (λ script. script.hardware.slots ≡ script.last + 1) }
     ensures area { IfOk result (λ script. IsLastPage script.last) }

@@ -18,7 +18,7 @@ pub fn line_of(reply: &Reply, line: &mut Line)
     line.put(b"\n");
 }
 
-/// Writes what a phrase is.
+/// Writes the text of a phrase.
 fn put_phrase(line: &mut Line, phrase: Phrase<'_>)
     requires empty { length line.old ≡ 0 }
     requires short { IsShort phrase }

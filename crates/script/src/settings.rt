@@ -12,13 +12,13 @@ use sig_header::MOST_BADPAGES;
 use std::alloc::{AllocError, Global};
 use std::marker::Model;
 
-/// The last page of a swap area where no line sets it.
+/// The last page of a swap area if no line sets it.
 const DEFAULT_LAST: u32 = 3000;
 
-/// The zones where no line names one.
+/// The zones if no line names one.
 const DEFAULT_ZONES: [(u32, u32); 1] = [(0, 4096)];
 
-/// How many entries of a table a page frame holds.
+/// The entries of a table that a page frame holds.
 const ENTRIES: u32 = 1024;
 
 /// What the settings of a script say so far.
@@ -52,7 +52,7 @@ impl Model for Settings {
 impl Settings {
     ghost use Rattle.script.specs.Grammar.{by_kind};
 
-    /// What no setting says.
+    /// Makes settings in which no line has said anything.
     pub fn new(alloc: Global) -> Settings
         ensures none { result ≡ by_kind [] }
         ensures fits { AreFitting result }
@@ -87,7 +87,7 @@ impl Settings {
         Ok(())
     }
 
-    /// The hardware that the settings describe, if they describe one.
+    /// Returns the hardware that the settings describe, if they describe one.
     pub fn hardware(&self) -> Option<Hardware>
         requires fits { AreFitting self.now }
         ensures hardware { IfSome result (λ hardware. hardware ≡ hardware_by self.now) }
@@ -123,7 +123,7 @@ impl Settings {
         or_default(self.zones.as_slice(), &DEFAULT_ZONES)
     }
 
-    /// The first page frames of the frame table and of the slot table.
+    /// Returns the first page frames of the frame table and of the slot table.
     fn tables(&self) -> (u32, u32)
         requires fits { AreFitting self.now }
         ensures { result ≡ tables_by self.now }
@@ -134,14 +134,14 @@ impl Settings {
         }
     }
 
-    /// The last page of the swap area.
+    /// Returns the last page of the swap area.
     pub fn last(&self) -> u32
         ensures { result ≡ self.now.last }
     {
         self.last
     }
 
-    /// The slots that can't be used.
+    /// Returns the slots that can't be used.
     pub fn into_bad(self) -> Vec<u32>
         ensures { result.items ≡ self.bad }
     {
@@ -149,21 +149,21 @@ impl Settings {
     }
 }
 
-/// Whether a slot is above the last one.
+/// Returns whether a slot is above the last one.
 fn has_above(slots: &[u32], last: u32) -> bool
     ensures { result ≡ list_any (nat_lt last) slots.now }
 {
     slots.iter().any(|slot| *slot > last)
 }
 
-/// What is given, or else the default.
+/// Returns what is given, or else the default.
 fn or_default<'a, T>(given: &'a [T], default: &'a [T]) -> &'a [T]
     ensures { result.now ≡ or_default given.now default.now }
 {
     if given.is_empty() { default } else { given }
 }
 
-/// The frame table in the lowest page frames, and the slot table after it.
+/// Places the frame table in the lowest page frames, and the slot table after it.
 fn tables_in(zones: &[(u32, u32)]) -> (u32, u32)
     requires some { 1 ≤ length zones.now }
     requires lines { All IsZoneLine zones.now }

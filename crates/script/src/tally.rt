@@ -4,7 +4,7 @@ ghost use Rattle.script.specs.Drill.{is_hibernated, is_resumed, summary, word_in
 use byte_streams::Line;
 use plain_machine::Reply;
 
-/// What replies come to: how many there are, how many hibernations, resumes and words they tell of, and the words' sum
+/// A tally of replies: how many there are, how many of them report hibernations, resumes and words, and the words' sum
 /// modulo 2^64.
 #[derive(Clone, Copy, Debug)]
 pub struct Tally {
@@ -20,7 +20,7 @@ impl Tally {
     ghost use Rattle.plain_machine.specs.declared.reply.Reply.{Reply as PlainReply};
     ghost use Rattle.script.specs.Drill.{tally_of};
 
-    /// Of no replies.
+    /// Makes the tally of no replies.
     #[tactic(auto, unfolding(crate::specs::Drill::tally_of))]
     pub fn new() -> Tally
         ensures { result ≡ tally_of [] }
@@ -62,7 +62,7 @@ fn is_resumed(reply: &Reply) -> bool
     matches!(reply, Reply::Resumed { .. })
 }
 
-/// The word that a reply shows.
+/// Returns the word that a reply shows.
 fn word_in(reply: &Reply) -> Option<u64>
     ensures { result ≡ word_in reply.now }
 {

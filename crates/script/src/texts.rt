@@ -4,7 +4,7 @@ ghost use Rattle.plain_machine.specs.Replies.{no_swap_text};
 use byte_streams::Line;
 use plain_machine::NoSwap;
 
-/// Adds why an area can't be used, as `no swap: old`.
+/// Adds the reason why an area can't be used, as `no swap: old`.
 pub fn put_no_swap(line: &mut Line, why: &NoSwap)
     requires { length line.old ≤ 64 }
     ensures added { line.new ≡ line.old ++ no_swap_text why.now }

@@ -3,14 +3,14 @@ ghost use Rattle.script.specs.Shapes.{all_numbers, number_in, number_of, texts, 
 
 use crate::fault::FaultKind;
 
-/// The numbers that may stand in a place, both ends included.
+/// The numbers that a place may have, both ends included.
 #[derive(Clone, Copy)]
 pub struct Span {
     pub low: u64,
     pub high: u64,
 }
 
-/// The number of at most 64 bits that a word of decimal digits is. Leading zeros are allowed.
+/// Reads a word of decimal digits as a number of at most 64 bits. Leading zeros are allowed.
 pub fn number_of(word: &[u8]) -> Option<u64>
     ensures { result ≡ number_of word.now }
 {
@@ -28,7 +28,7 @@ pub fn number_of(word: &[u8]) -> Option<u64>
     Some(number)
 }
 
-/// A number of this span.
+/// Reads a word as a number of this span.
 #[tactic(auto, unfolding(crate::specs::Shapes::number_in))]
 fn number_in(word: &[u8], span: Span) -> Result<u64, FaultKind>
     ensures { result ≡ number_in span word.now }
@@ -43,7 +43,7 @@ fn number_in(word: &[u8], span: Span) -> Result<u64, FaultKind>
     Ok(n)
 }
 
-/// The numbers that the words are, each of its span.
+/// Reads the words as numbers, each of its span.
 pub fn numbers<const N: usize>(words: &[&[u8]], spans: [Span; N]) -> Result<[u64; N], FaultKind>
     ensures numbers { result ≡ all_numbers spans.entry (texts words.now) }
     ensures within { IfOk result (AllWithin spans.entry) }

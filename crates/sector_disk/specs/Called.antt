@@ -11,9 +11,9 @@ OneCall before after = after ≡ raised before
 abbrev pub AtMostOneCall : ℕ → ℕ → Type 0
 AtMostOneCall before after = (after ≡ before) ⊎ (after ≡ raised before)
 
--- So many calls were made, and no restart or arm. Where it fails by one, that is a failure of the disk. The disk is as
--- large as before, and tells what it told: over one that tells moments the clock doesn't fall, and what a cut may leave
--- now it may have left since before.
+-- Reads, writes and syncs were made, but no restart or arm. If the operation fails because a call did, that is a
+-- failure of the disk. The disk keeps its size and tells what it told. If it tells moments, the clock doesn't fall, and
+-- what a cut may leave now it may have left since `before`.
 pub record Called {X : Type 0} (D : Ghosts X) (made : ℕ → ℕ → Type 0) (fails : Type 0) (before after : X) : Type 0 where
   pub cause : fails → HasRisen (D.faults before) (D.faults after)
   pub faults : D.faults before ≤ D.faults after

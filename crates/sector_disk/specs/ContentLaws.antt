@@ -8,7 +8,7 @@ use Rattle.std.specs.Str.{bytes_eq}
 use Rattle.definitions.specs.Disk.{Sector, DiskImage, IsSector, IsContent}
 use Rattle.sector_disk.specs.Sectors.{zero_sector, padded, candidates_of, content_of, AreSectors}
 
--- so many sectors of 512 bytes, where those that are kept are such
+-- padding gives `count` sectors of 512 bytes, if those that are kept are such
 pub length-padded : (count : ℕ) (kept : DiskImage) → length kept ≤ count → length (padded count kept) ≡ count
 unfolding padded
 length-padded count kept le =
@@ -96,7 +96,7 @@ is_sector d l hd hl = record {
   live = candidates_of-live d l;
 }
 
--- the content of a disk of so many blocks
+-- the content of a disk of `blocks` blocks
 pub content_of-is : (blocks : ℕ) (durable live : DiskImage) → AreSectors (8 * blocks) durable →
     AreSectors (8 * blocks) live → IsContent blocks (content_of durable live)
 content_of-is blocks durable live hd hl = record {
@@ -109,7 +109,7 @@ content_of-is blocks durable live hd hl = record {
       (is_sector (get_or durable k []) (get_or live k []) (hd.whole k [] below_durable) (hl.whole k [] below));
 }
 
--- the content of a disk of so many blocks that keeps their first sectors
+-- the content of a disk of `blocks` blocks that keeps only their first sectors
 pub content_of_padded : (blocks : ℕ) (durable live : DiskImage) → length durable ≡ length live →
     length live ≤ 8 * blocks → All (λ bytes. length bytes ≡ 512) durable → All (λ bytes. length bytes ≡ 512) live →
     IsContent blocks (content_of (padded (8 * blocks) durable) (padded (8 * blocks) live))

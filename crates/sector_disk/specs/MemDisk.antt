@@ -1,4 +1,4 @@
--- What contracts say of a disk in memory, beside what it tells as a disk.
+-- What contracts say of a disk in memory beyond the clauses of a disk.
 use Rattle.std.specs.Prelude.{◌≡◌, ℕ, ◌+◌, ◌*◌, ◌<◌, ◌≤◌, ◌↔◌, List, [], ◌∷◌, ◌++◌, replicate, Result, IsErr, OnOk}
 use Rattle.std.specs.Prelude.{OnErr}
 use Rattle.definitions.specs.Disk.{Content, DiskImage, raised}
@@ -31,7 +31,7 @@ durable_sectors d = padded (8 * d.blocks) d.durable.items
 abbrev pub live_sectors : MemDisk → DiskImage
 live_sectors d = padded (8 * d.blocks) d.live.items
 
--- what it tells of its content
+-- its content
 abbrev pub content : MemDisk → Content
 content d = content_of (durable_sectors d) (live_sectors d)
 

@@ -9,7 +9,7 @@ use Rattle.definitions.specs.Disk.{Content, DiskImage, sector_bytes}
 abbrev pub zero_sector : List ℕ
 zero_sector = replicate 512 0
 
--- so many sectors, of which these are the first and the others are zeros
+-- the given number of sectors, of which these are the first and the others are zeros
 unfoldable pub padded : ℕ → DiskImage → DiskImage
 padded count kept = kept ++ replicate (count - length kept) zero_sector
 
@@ -52,7 +52,7 @@ pub record SameOutsideBlock (b : ℕ) (old new : DiskImage) : Type 0 where
   pub below : (s : ℕ) → s < 8 * b → slice_index_or new s [] ≡ slice_index_or old s []
   pub above : (s : ℕ) → 8 * b + 8 ≤ s → slice_index_or new s [] ≡ slice_index_or old s []
 
--- so many sectors of 512 bytes
+-- `count` sectors of 512 bytes
 pub record AreSectors (count : ℕ) (sectors : DiskImage) : Type 0 where
   pub size : length sectors ≡ count
   pub whole : All (λ bytes. length bytes ≡ 512) sectors

@@ -12,9 +12,9 @@ use page_core::{Failed, Page};
 ///
 /// A read, a write and a sync may fail at any place. Each failure is counted.
 ///
-/// A disk may tell its content: for each sector its candidates, of which one is live, the one that a read gives.
+/// A disk may tell its content: for each sector its candidates, one of which is live, the one that a read gives.
 /// It may then also tell moments: a clock, and what a power cut since a moment might have left. A disk that tells
-/// neither, as a real one, has the clauses on blocks and counts alone.
+/// neither, such as a real one, has only the clauses on blocks and counts.
 pub trait Disk {
     /// How many blocks the disk has.
     ghost block_count: { Self → ℕ };
@@ -28,7 +28,7 @@ pub trait Disk {
     /// The restarts and arms that the disk was asked for, in their order.
     ghost orders: { Self → List Order };
 
-    /// What the disk holds, where it tells that.
+    /// What the disk holds, if it tells its content.
     ghost content: { Self → Option Content };
 
     /// Whether the disk tells moments.
@@ -37,7 +37,7 @@ pub trait Disk {
     /// The clock. It doesn't fall between two restarts.
     ghost moment: { Self → ℕ };
 
-    /// The images that a power cut at some moment from that one on might have left, during a call or between two.
+    /// The images that a power cut at some moment from the given one on might have left, during a call or between two.
     ghost left_since: { Self → ℕ → DiskImage → Type 0 };
 
     /// How many blocks the disk has.
@@ -126,11 +126,11 @@ pub trait Disk {
     /// A disk that tells moments tells its content.
     ghost tells_content: { (d : Self) → IsTrue (tells_moments d) → IsSome (content d) };
 
-    /// This moment is one of those since an earlier one.
+    /// What a power cut may leave now, it might have left since any earlier moment.
     ghost counts_now: { (d : Self) (t : ℕ) (v : DiskImage) → IsTrue (tells_moments d) → t ≤ moment d →
         IfSome (content d) (λ held. IsImage held v → left_since d t v) };
 
-    /// Since this moment there is no other.
+    /// Since the current moment a power cut might have left nothing else.
     ghost only_now: { (d : Self) (v : DiskImage) → IsTrue (tells_moments d) → left_since d (moment d) v →
         IfSome (content d) (λ held. IsImage held v) };
 }

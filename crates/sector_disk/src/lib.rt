@@ -1,4 +1,4 @@
-//! Disks of blocks: the trait, a disk in memory, and what a recorded call makes of one.
+//! Disks of blocks: the trait, a disk in memory, and the effect of a recorded call.
 #![tactic(auto)]
 
 mod calls;

@@ -12,11 +12,11 @@ use crate::sectors::{
 use page_core::{Failed, NoMemory, Page};
 use std::alloc::Global;
 
-/// A disk in memory. It has for each sector the durable bytes, which the last sync left, and the live ones.
-/// A restart takes of each sector the one or the other, as its pick says.
+/// A disk in memory. For each sector it has the durable bytes, which the last sync left, and the live ones. A restart
+/// takes the one or the other of each sector, as its pick says.
 ///
 /// It begins as zeros, and keeps the blocks up to the last one that was written: memory for all is taken when it is
-/// made, and what lies behind that block isn't touched.
+/// made, and what lies past that block isn't touched.
 ///
 /// It tells its content and no moments.
 #[derive(Drop)]
@@ -64,8 +64,8 @@ impl MemDisk {
         })
     }
 
-    /// Counts a read, a write or a sync that fails, whether or not it is armed, and leaves every sector. So a disk over
-    /// this one tells that it can't serve a call.
+    /// Counts a read, a write or a sync that fails, whether or not it is armed, and leaves every sector. A disk built
+    /// on top of this one thus reports that it can't serve a call.
     pub fn refuse(&mut self)
         ensures refused { IsRefused self.old self.new }
     {
@@ -79,7 +79,7 @@ impl MemDisk {
         self.calls.pick
     }
 
-    /// Takes the sectors that a disk has which began with these ones, after these calls. Nothing is counted, and the
+    /// Takes the sectors of a disk that began with `start` and made the calls of `log`. Nothing is counted, and the
     /// same calls stay armed.
     pub fn replay(&mut self, start: &[Sector], log: &[Recorded])
         requires start { AreSectors (8 * block_count self.old) start.now }
@@ -109,7 +109,7 @@ impl MemDisk {
         copy_first(&self.live, into);
     }
 
-    /// Keeps so many sectors at least. Those that it didn't keep so far are zeros.
+    /// Keeps at least `end` sectors. Those that it didn't keep so far are zeros.
     fn keep_up_to(&mut self, end: usize)
         requires inside { end ≤ 8 * block_count self.old }
         requires whole { end % 8 ≡ 0 }

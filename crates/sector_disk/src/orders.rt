@@ -11,7 +11,7 @@ use std::marker::Model;
 pub enum Order {
     /// A power cut, after which the image that `pick` chooses is the only one.
     Restart { pick: u64 },
-    /// That the calls number `first` to `first + count - 1` from then fail. `pick` chooses what a write that fails so
+    /// The calls number `first` to `first + count - 1` from then on fail. `pick` chooses what a write that fails so
     /// leaves.
     Arm { first: u32, count: u32, pick: u64 },
 }
@@ -27,14 +27,14 @@ impl Model for Orders {
 }
 
 impl Orders {
-    /// None yet.
+    /// Returns the empty list of orders.
     pub fn new() -> Orders
         ensures { result.list ≡ [] }
     {
         Orders {}
     }
 
-    /// These, and one more.
+    /// Returns these orders and one more.
     pub fn and(&self, _order: &Order) -> Orders
         ensures { result.list ≡ self.now.list ++ _order.now ∷ [] }
     {

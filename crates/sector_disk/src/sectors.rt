@@ -18,7 +18,7 @@ pub const SECTORS_IN_BLOCK: usize = 8;
 /// The sectors of a block of zeros.
 pub const ZEROS: [Sector; SECTORS_IN_BLOCK] = [[0; SECTOR_SIZE]; SECTORS_IN_BLOCK];
 
-/// Room for so many sectors. It takes their memory, and doesn't touch it.
+/// Returns room for `count` sectors. The memory is taken and not touched.
 pub fn room_for(alloc: Global, count: usize) -> Result<Vec<Sector>, NoMemory>
     ensures empty { IfOk result (λ sectors. sectors.items ≡ []) }
     ensures room { IfOk result (λ sectors. count ≤ vec_capacity sectors) }
@@ -26,7 +26,7 @@ pub fn room_for(alloc: Global, count: usize) -> Result<Vec<Sector>, NoMemory>
     Vec::with_capacity(alloc, count).map_err(|_| NoMemory)
 }
 
-/// Adds sectors of zeros up to so many. There is room for them.
+/// Adds sectors of zeros until there are `end`. They fit the room.
 pub fn fill_up(sectors: &mut Vec<Sector>, end: usize)
     requires more { vec_len sectors.old ≤ end }
     requires room { end ≤ vec_capacity sectors.old }
@@ -67,7 +67,7 @@ pub fn sectors_of(page: &Page) -> &[Sector]
     page.as_bytes().as_chunks::<SECTOR_SIZE>().0
 }
 
-/// Copies the sectors that are picked. `first` is the number of the first one.
+/// Copies the sectors that are picked. `first` is the number of the first sector.
 pub fn copy_picked(from: &[Sector], into: &mut [Sector], first: usize, pick: u64)
     requires same_length { length from.now ≡ length into.old }
     requires in_range { first + length from.now < 2 ^ 64 }
@@ -108,7 +108,7 @@ pub fn write_picked(sectors: &mut [Sector], b: usize, page: &Page, pick: u64)
     );
 }
 
-/// Makes the durable sectors the live ones. Outside the range they are.
+/// Makes the live sectors durable. Outside the range they are already.
 pub fn sync_sectors(durable: &mut [Sector], live: &[Sector], low: usize, high: usize)
     requires same_length { length durable.old ≡ length live.now }
     requires in_range { high ≤ length live.now }

@@ -27,7 +27,7 @@ mark_of page = record {
   hw_sig = hw_sig_of page;
 }
 
--- the area of a block that has no fault
+-- the area of a header block without a fault
 unfoldable pub area_of : List ℕ → Area
 area_of page = record {
   last = last_page_of page;

@@ -16,14 +16,14 @@ use thiserror::Error;
 pub struct Area {
     /// The last slot (`last_page`).
     pub last: u32,
-    /// How many bad pages the header names (`nr_badpages`).
+    /// The number of bad pages that the header names (`nr_badpages`).
     pub count: u32,
-    /// The first `count` of them are the bad pages (`badpages`), the others 0.
+    /// The bad pages (`badpages`): the first `count` entries. All others are 0.
     pub bad: [u32; MOST_BADPAGES],
 }
 
 /// A header block that carries the signature of an image (`struct swsusp_header`, kernel/power/swap.c).
-/// Nothing of it is tested.
+/// Its fields are untested.
 #[derive(Clone, Copy, Debug, PartialEq, Eq)]
 pub struct Mark {
     /// The word at `last_page`.
@@ -32,13 +32,13 @@ pub struct Mark {
     pub count: u32,
     /// The block of the first swap map page (`image`).
     pub first: u64,
-    /// SF_NOCOMPRESS_MODE and its kin.
+    /// The flags, such as SF_NOCOMPRESS_MODE.
     pub flags: u32,
-    /// The hardware signature that the image was made under, where SF_HW_SIG is set.
+    /// The hardware signature that the image was made under, if SF_HW_SIG is set.
     pub hw_sig: u32,
 }
 
-/// Why a block with the signature `SWAPSPACE2` is no area that can be used.
+/// Why a block with the signature `SWAPSPACE2` isn't an area that can be used.
 #[derive(Clone, Copy, Debug, PartialEq, Eq, Error)]
 pub enum AreaFault {
     /// The version isn't 1.
@@ -47,7 +47,7 @@ pub enum AreaFault {
     /// More than 630 bad pages.
     #[error("{count} bad pages")]
     BadCount { count: u32 },
-    /// There is no slot but the header's.
+    /// There is no slot except the header's.
     #[error("last page 0")]
     LastZero,
     /// The first bad page that is 0 or above the last slot.
@@ -58,11 +58,11 @@ pub enum AreaFault {
 /// What the header block of a swap area says.
 #[derive(Clone, Copy, Debug, PartialEq, Eq)]
 pub enum AreaKind {
-    /// An image is there.
+    /// An area with an image.
     Image(Mark),
     /// A version 0 area (`SWAP-SPACE`).
     Old,
-    /// No signature of a swap area.
+    /// A block without a swap area's signature.
     Other { sig: [u8; 10] },
     /// A version 1 area with a fault.
     BadArea { why: AreaFault },
@@ -74,8 +74,8 @@ impl AreaKind {
     ghost use Rattle.std.specs.Prelude.{◌≡◌};
     ghost use Rattle.sig_header.specs.AreaKind.{area_kind};
 
-    /// What a header block says. The kinds are tested in the order: an image, a version 0 area, no area, the faults
-    /// of a version 1 area in the order of `AreaFault`.
+    /// Reads what a header block says. The kinds are tested in this order: an image, a version 0 area, no area, the
+    /// faults of a version 1 area in the order of `AreaFault`.
     #[tactic(auto, unfolding(crate::specs::AreaKind::area_kind))]
     pub fn read(page: &Page) -> AreaKind
         ensures { result ≡ area_kind page.now }
@@ -128,7 +128,7 @@ fn version_1(page: &Page) -> AreaKind
     AreaKind::BadArea { why }
 }
 
-/// The first `count` bad pages that the header names, and zeros.
+/// Returns the first `count` bad pages that the header names, followed by zeros.
 fn bad_pages(page: &Page, count: u32) -> [u32; MOST_BADPAGES]
     requires { count ≤ 630 }
     ensures { result ≡ bad_pages_of page.now count ++ replicate (630 - count) 0 }
@@ -146,7 +146,7 @@ fn first_outside(bad: &[u32], last: u32) -> Option<u32>
     bad.iter().copied().find(|&slot| slot == 0 || slot > last)
 }
 
-/// The header block of a version 1 area without an image.
+/// Makes the header block of a version 1 area without an image.
 #[tactic(auto, unfolding(definitions::specs::SwapHeader::area_page))]
 pub fn area_page(last: u32, bad: &[u32]) -> Page
     requires { length bad.now ≤ 630 }

@@ -6,12 +6,12 @@ use crate::layout::{self, FLAGS, HW_SIG, ORIG_SIG, SF_HW_SIG, SIG};
 use crate::signatures::{self, original_signature, signature, with_signature};
 use page_core::Page;
 
-/// The block with the mark of an image (`mark_swapfiles`, kernel/power/swap.c): the signature moves to `orig_sig` and
-/// the image's takes its place, `image` is the block of the first map, and where the machine has a hardware signature,
-/// which `hw` other than 0 is, it is set and SF_HW_SIG is added to the flags. All other bytes stay.
+/// Returns the block with the mark of an image (`mark_swapfiles`, kernel/power/swap.c): the signature moves to
+/// `orig_sig` and the image's takes its place, and `image` is the block of the first map. If the machine has a hardware
+/// signature (`hw` isn't 0), that is set and SF_HW_SIG is added to the flags. All other bytes stay.
 pub fn mark(page: &Page, first: u64, flags: u32, hw: u32) -> Page
     ensures marked { result ≡ marked page.now first flags hw }
-    // Taken back, it is the block from before but for the mark's numbers and orig_sig.
+    // Taken back, it is the block from before except for the mark's numbers and orig_sig.
     ensures undone { AgreeBut 4056 4086 (taken_back result) page.now }
 {
     let original = signature(page);
@@ -36,7 +36,8 @@ fn mark_over(page: &Page, original: [u8; 10], first: u64, flags: u32, hw: u32) -
     marked
 }
 
-/// The block taken back (`swsusp_check`, kernel/power/swap.c): `orig_sig` is the signature again. All other bytes stay.
+/// Returns the block with its mark taken back (`swsusp_check`, kernel/power/swap.c): `orig_sig` becomes the signature
+/// again. All other bytes stay.
 #[tactic(auto, unfolding(definitions::specs::SwapHeader::taken_back))]
 pub fn take_back(page: &Page) -> Page
     ensures { result ≡ taken_back page.now }

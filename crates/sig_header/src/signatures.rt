@@ -31,7 +31,7 @@ pub(crate) fn original_signature(page: &Page) -> [u8; 10]
     sig
 }
 
-/// The page with a signature at offset k.
+/// Returns the page with a signature at offset k.
 pub(crate) fn with_signature(page: &Page, k: usize, sig: [u8; 10]) -> Page
     requires { k ≤ 4086 }
     ensures { result ≡ with_bytes page.now k sig }

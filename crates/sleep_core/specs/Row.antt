@@ -1,5 +1,5 @@
--- The rows of the plain machine that a waking makes, over whatever machine and page frames its caller has and leaves by
--- its replies.
+-- The rows of the plain machine that a waking implements, for any machine and page frames, which its caller changes as
+-- the replies say.
 use Rattle.std.specs.Prelude.{◌≡◌, Option}
 use Rattle.definitions.specs.Disk as disk
 use Rattle.plain_machine.specs.Machine.{Memory}
@@ -17,7 +17,7 @@ use Rattle.machine.specs.declared.machine.Machine.{Machine}
 use Rattle.sleep_core.specs.Waking.{shown_by, asleep_by, running_by}
 use Rattle.sleep_core.specs.declared.waker.Waker.{Waker}
 
--- A machine that wakes, sleeps or runs, and its disk, stand for a state.
+-- A machine that wakes, sleeps or runs stands, with its disk, for a state.
 abbrev pub WakingStandsFor : Machine → Memory → Waker → disk.Content → State → Type 0
 WakingStandsFor machine frames waker c a = Stands machine.hw (shown_by machine frames waker) c a
 
@@ -27,14 +27,14 @@ Sleeps machine frames c a = Stands machine.hw (asleep_by machine frames) c a
 abbrev pub Runs : Machine → Memory → disk.Content → State → Type 0
 Runs machine frames c a = Stands machine.hw (running_by machine frames) c a
 
--- what stands after a step, by its reply
+-- what holds after a step, by its reply
 abbrev pub StandsAfter : Reply → Machine → Memory → Waker → disk.Content → State → Type 0
 StandsAfter (reply.More k of) machine frames waker = WakingStandsFor machine frames waker
 StandsAfter reply.Woken machine frames waker = Runs machine frames
 StandsAfter _ machine frames waker = Sleeps machine frames
 
--- What the caller leaves by the reply: woken, the machine holds nothing, and the image's slots are given back. After
--- any other reply all is as it was: that an image is only perhaps there, after a fault, is the state's to know.
+-- What the caller leaves, by the reply: after `Woken` the machine holds nothing, and the image's slots are given back.
+-- After any other reply all is as before: only the state knows that an image perhaps exists after a fault.
 abbrev pub IsLeft : Reply → Machine → Memory → Machine → Memory → Type 0
 IsLeft reply.Woken machine frames machine' frames' =
     (machine' ≡ record machine { held = No }) × (frames' ≡ seen_frames machine.hw frames)
@@ -48,7 +48,7 @@ SimulatesWhereTold machine waker waker' r before now =
     rows.SimulatesWhereTold machine.hw (WakingStandsFor machine frames waker) (StandsAfter r machine' frames' waker')
     (event.Step actor.Core) r before now
 
--- the row of Wake, whose event calls no disk
+-- the row of Wake, an event without a disk call
 abbrev pub IsBegun : Waker → Type 0
 IsBegun waker =
     (machine : Machine) (frames : Memory) (c : disk.Content) →

@@ -1,4 +1,4 @@
--- A waking, and what a machine shows while it is at it, while it sleeps, and when it runs.
+-- A waking, and what a machine shows while it wakes, sleeps or runs.
 use Rattle.std.specs.Prelude.{◌≡◌, ◌⊎◌, ℕ, Bool, true, false, List, [], None}
 use Rattle.plain_machine.specs.Machine.{Memory}
 use Rattle.plain_machine.specs.Shows.{WorldView, Activity, runs, sleeps, wakes}
@@ -12,14 +12,14 @@ use Rattle.sleep_core.specs.declared.waker.Stage.{Stage}
 use Rattle.sleep_core.specs.declared.waker.Stage.TheVariants as stage
 use Rattle.sleep_core.specs.declared.waker.Waker.{Waker}
 
--- how many steps are made before each
+-- the number of steps made before each stage
 abbrev pub steps_before : Stage → ℕ
 steps_before stage.Read = 0
 steps_before (stage.Write header) = 1
 steps_before stage.Sync = 2
 steps_before stage.Over = 3
 
--- How many steps are left at most: each leaves fewer, whatever the disk tells.
+-- An upper bound for the steps left: each step leaves fewer, whatever the disk tells.
 abbrev pub waking_steps_left_at : Stage → ℕ
 waking_steps_left_at stage.Read = 3
 waking_steps_left_at (stage.Write header) = 2
@@ -29,7 +29,7 @@ waking_steps_left_at stage.Over = 0
 abbrev pub waking_steps_left : Waker → ℕ
 waking_steps_left waker = waking_steps_left_at waker.stage
 
--- the header block that is kept between two calls of the disk, where one is
+-- the header block kept between two disk calls, if there is one
 abbrev pub header_at : Stage → List ℕ
 header_at (stage.Write header) = header
 header_at _ = []
@@ -37,7 +37,7 @@ header_at _ = []
 abbrev pub activity_of : Waker → Activity
 activity_of waker = wakes (steps_before waker.stage)
 
--- whether it has no step to make
+-- whether no step is left to make
 abbrev pub is_over_at : Stage → Bool
 is_over_at stage.Read = false
 is_over_at (stage.Write header) = false
@@ -47,20 +47,20 @@ is_over_at stage.Over = true
 abbrev pub is_over : Waker → Bool
 is_over waker = is_over_at waker.stage
 
--- whether a step follows this reply
+-- whether no step follows this reply
 abbrev pub is_last : Reply → Bool
 is_last (reply.More k of) = false
 is_last _ = true
 
--- what each step answers
+-- the possible replies at each stage
 abbrev pub IsReplyAt : Stage → Reply → Type 0
 IsReplyAt stage.Read r = (r ≡ reply.More 1 3) ⊎ (r ≡ reply.ReadFault Same)
 IsReplyAt (stage.Write header) r = (r ≡ reply.More 2 3) ⊎ (r ≡ reply.WriteFault Unsure)
 IsReplyAt stage.Sync r = (r ≡ reply.Woken) ⊎ (r ≡ reply.SyncFault Unsure)
 IsReplyAt stage.Over r = ⊥
 
--- What is shown at something, with the block that is kept. A machine that sleeps or wakes shows what it held before the
--- suspend, which is nothing: what is held now is the state's.
+-- What is shown during an activity, with the header block that is kept. A machine that sleeps or wakes shows what it
+-- held before the suspend, which is nothing; what it holds now is in the state.
 abbrev pub shown_at : Machine → Memory → Activity → List ℕ → WorldView
 shown_at machine frames activity header = record {
   activity = activity;

@@ -14,23 +14,23 @@ use plain_machine::{Left, Reply};
 use sector_disk::Disk;
 use sig_header::{AreaKind, take_back};
 
-/// Steps of a waking: a read, a write and a sync.
+/// The number of steps of a waking: a read, a write and a sync.
 const STEPS: u32 = 3;
 
-/// What is done next, with what it is done with.
+/// The step to make next, with the data that it needs.
 #[derive(Drop)]
 pub(crate) enum Stage {
-    /// The header block is read.
+    /// The read of the header block.
     Read,
-    /// It is written taken back.
+    /// The write of the header block with the mark taken back.
     Write(Page),
-    /// That is synced.
+    /// The sync of the cleared mark. No image exists after it.
     Sync,
-    /// Nothing: the machine runs, or sleeps again.
+    /// No step: the machine runs, or sleeps again.
     Over,
 }
 
-/// A waking. It changes neither the machine nor its page frames: whoever calls it does that by its replies.
+/// A waking. It changes neither the machine nor its page frames: its caller does so, as the replies say.
 #[derive(Drop)]
 pub struct Waker {
     pub(crate) stage: Stage,
@@ -47,8 +47,8 @@ impl Waker {
         Waker { stage: Stage::Read }
     }
 
-    /// Makes the next step: one call of the disk. After `Woken` the machine holds nothing any more, and the image's
-    /// slots are given back; after any other reply it is as it was.
+    /// Makes the next step, with one call of the disk. After `Woken` the caller has to record that the machine holds
+    /// nothing, and to give the image's slots back; after any other reply the machine is as it was.
     pub fn step<D: Disk>(&mut self, machine: &Machine, disk: &mut D) -> Reply
         requires under_way { is_over self.old ≡ false }
         requires blocks { D.block_count disk.old ≡ machine.now.blocks }
@@ -69,7 +69,7 @@ impl Waker {
         }
     }
 
-    /// Reads the header block. Where that fails the machine sleeps as before.
+    /// Reads the header block. If that fails, the machine sleeps as before.
     fn read_header<D: Disk>(&mut self, machine: &Machine, disk: &mut D) -> Reply
         requires at { self.old.stage ≡ stage.Read }
         requires blocks { D.block_count disk.old ≡ machine.now.blocks }
@@ -81,7 +81,7 @@ impl Waker {
         ensures fewer { waking_steps_left self.new < waking_steps_left self.old }
         ensures called { Called D.Disk OneCall (TellsNewFault result) disk.old disk.new }
     {
-        // Only what is read is known to have the size of its type.
+        // The prover knows the bounds of a field's type only once the field is read.
         let _blocks = machine.blocks;
         let block = machine.hw.extents().block(0);
         let mut header = Page::zero();
@@ -97,8 +97,8 @@ impl Waker {
         }
     }
 
-    /// Writes it taken back where it is marked, and as it is where it isn't. Where that fails the image is perhaps
-    /// there.
+    /// Writes the header block with its mark taken back, or unchanged if it carries none. If that fails, the image
+    /// perhaps still exists.
     fn write_back<D: Disk>(&mut self, machine: &Machine, disk: &mut D) -> Reply
         requires at { (header : List ℕ) × (self.old.stage ≡ stage.Write header) }
         requires blocks { D.block_count disk.old ≡ machine.now.blocks }
@@ -130,7 +130,7 @@ impl Waker {
         }
     }
 
-    /// Syncs that: no image is there any more. Where it fails one is perhaps there.
+    /// Syncs the cleared mark. From here on no image exists. If the sync fails, the image perhaps still exists.
     fn sync_back<D: Disk>(&mut self, machine: &Machine, disk: &mut D) -> Reply
         requires at { self.old.stage ≡ stage.Sync }
         requires blocks { D.block_count disk.old ≡ machine.now.blocks }
@@ -149,7 +149,7 @@ impl Waker {
     }
 }
 
-/// Takes a header block back, where it is marked.
+/// Takes the mark of a header block back, if it carries one.
 fn unmark(header: &mut Page)
     ensures { header.new ≡ unmarked_block header.old }
 {
@@ -158,7 +158,7 @@ fn unmark(header: &mut Page)
     }
 }
 
-/// Whether a header block carries the signature of an image.
+/// Returns whether a header block carries the signature of an image.
 fn is_marked(header: &Page) -> bool
     ensures { result ≡ pointwise nat_eq (sig_of header.now) image_signature }
 {

@@ -1,4 +1,4 @@
--- How a snapshot is kept: three sets over the same zones, of which that of the zero pages is empty in the plain format.
+-- How a snapshot is kept: three sets over the same zones. In the plain format the set of the zero pages is empty.
 use Rattle.std.specs.Prelude.{◌≡◌, []}
 use Rattle.page_core.specs.declared.format.Format.TheVariants.{Plain}
 use Rattle.snapshot.specs.Taken.{Taken}

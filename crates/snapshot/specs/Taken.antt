@@ -20,8 +20,7 @@ pub record Taken : Type 0 where
 abbrev pub is_zero_frame : List (List ℕ) → ℕ → Bool
 is_zero_frame frames p = pointwise nat_eq (frame frames p) zero_page
 
--- the originals that have no data page in an image of this format: those that are all zero, and in the plain format
--- none
+-- the originals that have no data page in an image of this format: those that are all zero, or none in the plain format
 abbrev pub zero_frames : Format → List (List ℕ) → List ℕ → List ℕ
 zero_frames Plain frames origs = []
 zero_frames SkipZeros frames origs = filter (is_zero_frame frames) origs
@@ -36,8 +35,8 @@ pub record AreFrameSets (taken : Taken) : Type 0 where
   pub copied : IsFrameSet (set_over taken.zones taken.copies)
   pub all_zero : IsFrameSet (set_over taken.zones taken.zeros)
 
--- What a writer of the image asks for: each original has a copy, no original is a copy, and the copies are page frames
--- that are there.
+-- What a writer of the image requires: each original has a copy, no original is a copy, and the copies are page frames
+-- of memory.
 pub record CanBeWritten (taken : Taken) (frames : List (List ℕ)) : Type 0 where
   pub paired : length taken.copies ≡ length taken.origs
   pub disjoint : AreDisjoint taken.origs taken.copies

@@ -19,15 +19,15 @@ use std::alloc::Global;
 use std::marker::Model;
 use zones::Zones;
 
-/// How many pages an image has: all `n` that it saves, and the `d` of them with a data page.
+/// The number of pages of an image: all `n` that it saves, and the `d` of them with a data page.
 #[derive(Clone, Copy)]
 pub struct Counts {
     pub n: u32,
     pub d: u32,
 }
 
-/// The saveable page frames at one moment, the page frames that they are copied to, and which of them are all zero
-/// where the format leaves those out.
+/// The saveable page frames at one moment, the page frames that they are copied to, and the saveable ones that are all
+/// zero, if the format leaves those out.
 #[derive(Drop)]
 pub struct Snapshot {
     origs: Bitmap,
@@ -49,7 +49,7 @@ impl Model for Snapshot {
 }
 
 impl Snapshot {
-    /// A snapshot of nothing, over these zones.
+    /// Makes a snapshot of nothing over these zones.
     pub fn create(alloc: Global, zones: &Zones) -> Result<Snapshot, NoMemory>
         ensures { IfOk result (λ s. s ≡ record {
           zones = zones.now;
@@ -67,8 +67,8 @@ impl Snapshot {
         })
     }
 
-    /// Marks the saveable page frames and those of them that are all zero, and counts them. No copy is kept from
-    /// before. Refused where too few page frames are free for the copies and the writing.
+    /// Marks the saveable page frames and those of them that are all zero, and counts them. Earlier copies are not
+    /// kept. Refuses if too few page frames are free for the copies and the writing.
     pub fn count(&mut self, view: &View, format: Format) -> Result<Counts, Short>
         requires table { HasTable view.now.frames.now view.now.table (top view.now.zones.now) }
         requires within { top view.now.zones.now ≤ length view.now.frames.now }
@@ -109,7 +109,7 @@ impl Snapshot {
         Ok(Counts { n, d: n - zeros })
     }
 
-    /// Copies the originals that were counted into the lowest free page frames, as many.
+    /// Copies the originals that were counted into the lowest free page frames.
     pub fn copy(&mut self, frames: &mut Frames, zones: &Zones, table: u32)
         requires table { HasTable frames.old table (top zones.now) }
         requires within { top zones.now ≤ length frames.old }
@@ -135,22 +135,22 @@ impl Snapshot {
         copy_all(frames, &self.origs, &self.copies);
     }
 
-    /// The saveable page frames of the last count.
+    /// Returns the saveable page frames of the last count.
     pub fn origs(&self) -> &Bitmap
         ensures { result.now ≡ set_over self.now.zones self.now.origs }
     {
         &self.origs
     }
 
-    /// The page frames that the originals were copied to since the last count. The k-th has the page of the k-th
-    /// original.
+    /// Returns the page frames that the originals were copied to since the last count. The k-th has the page of the
+    /// k-th original.
     pub fn copies(&self) -> &Bitmap
         ensures { result.now ≡ set_over self.now.zones self.now.copies }
     {
         &self.copies
     }
 
-    /// The originals that were all zero at the last count. None where its format was plain.
+    /// Returns the originals that were all zero at the last count, or None if its format was plain.
     pub fn zeros(&self) -> Option<&Bitmap>
         ensures skips { IsSome result ↔ (self.now.format ≡ Format.SkipZeros) }
         ensures set { IfSome result (λ set. set.now ≡ set_over self.now.zones self.now.zeros) }
@@ -163,7 +163,7 @@ impl Snapshot {
     }
 }
 
-/// Makes the set that of the originals that are all zero, and in the plain format the empty one.
+/// Makes `zeros` the originals that are all zero, or in the plain format the empty set.
 fn mark_zeros(frames: &Frames, format: Format, origs: &Bitmap, zeros: &mut Bitmap)
     requires zones { zeros.old.zones ≡ origs.now.zones }
     requires within { All (λ p. p < length frames.now) origs.now.members }

@@ -1,5 +1,5 @@
--- The places of standard streams among a program's descriptors: 0 is standard input's, 1 standard output's, 2 standard
--- error's (unistd.h).
+-- The places of standard streams among a program's descriptors: 0 is standard input, 1 standard output, 2 standard
+-- error (unistd.h).
 use Rattle.std.specs.Prelude.{◌≡◌, ◌⊎◌, ℤ, pos, IfSome}
 use Rattle.std.specs.Fd.{file_raw_fd}
 use Rattle.standard_streams.specs.declared.Held.{Held}
@@ -10,7 +10,7 @@ IsInput place = place ≡ pos 0
 abbrev pub IsOutput : ℤ → Type 0
 IsOutput place = (place ≡ pos 1) ⊎ (place ≡ pos 2)
 
--- Each file that is kept is in the place of a standard stream. So no other file of the program's is.
+-- Each file that is kept takes the place of a standard stream, so no other file of the program can take it.
 pub record TakesPlaces (held : Held) : Type 0 where
   pub input : IfSome held.input (λ file. IsInput (file_raw_fd file))
   pub first : IfSome held.first (λ file. IsOutput (file_raw_fd file))

@@ -1,5 +1,5 @@
-//! The standard streams: those that are closed keep their places (as coreutils and util-linux see to it, gnulib's
-//! stdopen), and standard output is synced where it is a file.
+//! The standard streams: the places of closed ones are held (as in coreutils and util-linux, by gnulib's stdopen), and
+//! standard output is synced if it is a file.
 #![tactic(auto)]
 
 ghost use Rattle.std.specs.Prelude.{IfOk, IfSome};
@@ -11,13 +11,13 @@ use std::io::{self, ErrorKind};
 use std::os::fd::AsRawFd;
 use std::os::unix::fs::{FileTypeExt, MetadataExt};
 
-/// The file that stands for a standard stream that is closed.
+/// The file that stands in for a closed standard stream.
 const NO_STREAM: &str = "/dev/null";
 
 /// Standard output and standard error, by their places among the program's descriptors (proc_pid_fd(5)).
 const OUTPUTS: [&str; 2] = ["/proc/self/fd/1", "/proc/self/fd/2"];
 
-/// The places of standard streams that were closed, taken as long as this is kept.
+/// The places of standard streams that were closed, held as long as this value is kept.
 #[derive(Drop)]
 pub struct Held {
     input: Option<File>,
@@ -25,8 +25,8 @@ pub struct Held {
     second: Option<File>,
 }
 
-/// Takes the places of standard streams that are closed, so that no file which is opened later becomes one. Standard
-/// input's is open for writing alone and those of the outputs for reading alone, so that they fail as closed ones do.
+/// Takes the places of closed standard streams, so that no file opened later becomes one of them. The file for standard
+/// input is write-only and those for the outputs are read-only, so that they fail as closed ones do.
 pub fn hold(rt: &HostRuntime) -> io::Result<Held>
     ensures { IfOk result TakesPlaces }
 {
@@ -37,7 +37,7 @@ pub fn hold(rt: &HostRuntime) -> io::Result<Held>
     })
 }
 
-/// Takes the place of standard input, where it is free: a file that is opened takes the lowest place (open(2)).
+/// Takes the place of standard input if it is free: a file that is opened takes the lowest free place (open(2)).
 fn input_place(rt: &HostRuntime) -> io::Result<Option<File>>
     ensures { IfOk result (λ place. IfSome place (λ file. IsInput (file_raw_fd file))) }
 {
@@ -54,7 +54,7 @@ fn input_place(rt: &HostRuntime) -> io::Result<Option<File>>
     })
 }
 
-/// Takes the lowest place that is free, where it is that of an output.
+/// Takes the lowest free place, if it is an output's.
 fn output_place(rt: &HostRuntime) -> io::Result<Option<File>>
     ensures { IfOk result (λ place. IfSome place (λ file. IsOutput (file_raw_fd file))) }
 {
@@ -65,8 +65,8 @@ fn output_place(rt: &HostRuntime) -> io::Result<Option<File>>
     })
 }
 
-/// Whether standard output or standard error is the file or the block device at a path, so that what is printed would
-/// reach it. Where the system shows no descriptors that isn't known, and the answer is no.
+/// Returns whether standard output or standard error is the file or the block device at a path, so that what is printed
+/// would reach it. If the system doesn't show descriptors, this isn't known, and the answer is no.
 pub fn is_output(rt: &HostRuntime, path: &str) -> io::Result<bool> {
     let found = fs::metadata(rt, path)?;
     for output in OUTPUTS {
@@ -80,17 +80,17 @@ pub fn is_output(rt: &HostRuntime, path: &str) -> io::Result<bool> {
     Ok(false)
 }
 
-/// Whether two names are those of one file, or of one block device.
+/// Returns whether two files or block devices are the same one.
 fn is_same(first: &Metadata, second: &Metadata) -> bool {
     let devices = first.file_type().is_block_device() && second.file_type().is_block_device();
     (first.dev() == second.dev() && first.ino() == second.ino())
         || (devices && first.rdev() == second.rdev())
 }
 
-/// Syncs standard output where it is a regular file, so that what was printed outlasts a power cut. Where the system
-/// shows no descriptors, or doesn't let the program open the file itself, nothing is synced.
+/// Syncs standard output if it is a regular file, so that what was printed survives a power cut. If the system doesn't
+/// show descriptors, or doesn't let the program open the file itself, nothing is synced.
 ///
-/// The library syncs files that it opened, so the file is opened once more.
+/// The library only syncs files that it opened, so the file is opened once more.
 pub fn sync_output(rt: &HostRuntime) -> io::Result<()> {
     match fs::metadata(rt, OUTPUTS[0]) {
         Ok(found) if found.is_file() => sync_file(rt, OUTPUTS[0]),

@@ -1,4 +1,4 @@
--- What each fault of a stream says, one by one, and which of them is the first.
+-- What each fault of a stream says, and which of the faults is the first.
 use Rattle.std.specs.Prelude.{◌≡◌, ◌≢◌, ◌≤◌, ◌<◌, ℕ, suc, ◌+◌, ◌*◌, ◌%◌, List, ◌++◌, length, Some, IsTrue}
 use Rattle.definitions.specs.NumberPages.{end_value}
 use Rattle.stream_check.specs.declared.fault.Kind.{Kind}
@@ -15,7 +15,7 @@ pub record HasCounts (bs : List ℕ) : Type 0 where
 abbrev pub HasWord : List ℕ → ℕ → Type 0
 HasWord bs j = place j + 8 ≤ length bs
 
--- A fault of this kind lies at this place. Short is no fault of the bytes so far: more may come.
+-- A fault of this kind is at this place. Short is no fault of the bytes so far, as more may come.
 abbrev pub HasFault : List ℕ → Kind → ℕ → Type 0
 HasFault bs Counts at = (at ≡ 416) × (4096 ≤ length bs) × (IsTrue (are_counts (image_pages bs) (all_pages bs)) → ⊥)
 HasFault bs Pfn at =
@@ -28,12 +28,12 @@ HasFault bs End at =
 HasFault bs Extra at = HasCounts bs × (at ≡ 4096 * all_pages bs) × (at < length bs)
 HasFault bs Short at = ⊥
 
--- The first fault is one of the bytes so far, and no other lies before it.
+-- The first fault is one of the bytes so far, and no other fault lies before it.
 pub record IsFirst (bs : List ℕ) (fault : StreamFault) : Type 0 where
   pub there : HasFault bs fault.kind fault.at
   pub least : (kind : Kind) (at : ℕ) → HasFault bs kind at → fault.at ≤ at
 
--- where none is found, none is there
+-- the bytes so far have no fault
 abbrev pub HasNoFault : List ℕ → Type 0
 HasNoFault bs = (kind : Kind) (at : ℕ) → HasFault bs kind at → ⊥
 

@@ -5,8 +5,8 @@ use crate::taking::{PAGE, Taking};
 use crate::{Kind, StreamFault};
 use std::marker::Model;
 
-/// A stream that is tested as it comes. A contract sees what is kept of the bytes that were taken, and speaks of the
-/// bytes by `HasTaken`.
+/// A stream that is tested as it comes. A contract sees what is kept of the bytes taken so far, and speaks of the bytes
+/// by `HasTaken`.
 #[derive(Drop)]
 pub struct Checker {
     taking: Taking,
@@ -28,7 +28,7 @@ impl Checker {
     ghost use Rattle.stream_check.specs.Grammar.{first_fault, short_fault, image_pages, all_pages, are_counts};
     ghost use Rattle.stream_check.specs.declared.fault.StreamFault.{StreamFault};
 
-    /// No byte is taken.
+    /// Makes a checker that has taken no byte.
     pub fn begin() -> Checker
         ensures { HasTaken [] result }
     {
@@ -37,14 +37,14 @@ impl Checker {
         }
     }
 
-    /// How many bytes were taken.
+    /// Returns how many bytes were taken.
     pub fn taken(&self) -> u64
         ensures { (bs : List ℕ) → HasTaken bs self.now → result ≡ length bs }
     {
         self.taking.taken
     }
 
-    /// The info page's `image_pages` and `pages`, once that page is whole.
+    /// Returns the info page's `image_pages` and `pages`, once that page is whole.
     pub fn counts(&self) -> Option<(u32, u32)>
         ensures { (bs : List ℕ) → HasTaken bs self.now →
             result ≡ (if nat_lt (length bs) 4096 then None else Some (image_pages bs, all_pages bs)) }
@@ -68,7 +68,7 @@ impl Checker {
         Ok(())
     }
 
-    /// How many pages were saved, where the stream ends here; refused where its last page isn't whole.
+    /// Returns how many pages were saved, if the stream ends here. Refuses if the last page isn't whole.
     pub fn finish(&self) -> Result<u32, StreamFault>
         ensures ok { (bs : List ℕ) → HasTaken bs self.now → IsOk result ↔ (short_fault bs ≡ None) }
         ensures fault { (bs : List ℕ) → HasTaken bs self.now → (fault : StreamFault) →

@@ -9,7 +9,7 @@ pub enum Kind {
     Pfn,
     /// A frame number isn't above the one before.
     Order,
-    /// The word after the last frame number isn't 2^64-1, where that number doesn't fill its page.
+    /// The frame numbers don't fill their last page, and the word after them isn't 2^64-1.
     End,
     /// A byte follows the last page.
     Extra,
@@ -22,7 +22,7 @@ pub enum Kind {
 #[error("stream {kind:?} byte {at}")]
 pub struct StreamFault {
     pub kind: Kind,
-    /// The byte at which it lies: that of the field `image_pages`, of the word at fault, or the one too many; for
-    /// `Short` how many bytes there are.
+    /// The byte of the fault: that of the field `image_pages` or of the word at fault, or the first one too many; for
+    /// `Short`, how many bytes there are.
     pub at: u64,
 }

@@ -8,19 +8,19 @@ ghost use Rattle.stream_check.specs.declared.fault.StreamFault.{StreamFault};
 use crate::{Kind, StreamFault};
 use byteorder::{ByteOrder, LittleEndian};
 
-/// Bytes of a page.
+/// The bytes of a page.
 pub const PAGE: u64 = 4096;
 
-/// Bytes of a word.
+/// The bytes of a word.
 const WORD: u64 = 8;
 
-/// Frame numbers are below this.
+/// The bound of frame numbers, which are all below it.
 const FRAMES: u64 = 65536;
 
-/// How many numbers fill a page.
+/// The frame numbers that fill a page.
 const PAGE_NUMBERS: u64 = 512;
 
-/// What follows the last number where its page isn't full (BM_END_OF_MAP).
+/// The word after the last number if that doesn't fill its page (BM_END_OF_MAP).
 const END: u64 = u64::MAX;
 
 /// The places of the two counts in the info page (struct swsusp_info).
@@ -31,25 +31,25 @@ const PAGES: u64 = 424;
 /// The place of the info page's last word.
 const LAST_OF_INFO: u64 = PAGE - WORD;
 
-/// What is kept of the bytes that were taken.
+/// What is kept of the bytes taken so far.
 #[derive(Clone, Copy)]
 pub struct Taking {
-    /// How many bytes were taken.
+    /// The number of bytes taken.
     pub taken: u64,
-    /// The word that has begun: its bytes so far.
+    /// The bytes so far of the word that has begun.
     pub word: [u8; 8],
     /// The two counts, once they are read.
     pub image_pages: u64,
     pub pages: u64,
-    /// Where the words that are tested end, and the stream itself; the least and the most until the info page is whole.
+    /// The ends of the tested words and of the stream: the least and the most possible until the info page is whole.
     pub numbers_end: u64,
     pub end: u64,
-    /// The least number that the next one may be.
+    /// The least number that may come next.
     pub least: u64,
 }
 
 impl Taking {
-    /// No byte is taken.
+    /// Makes a state in which no byte is taken.
     pub fn begin() -> Taking
         ensures taken { HasTaken [] result }
         ensures bounded { AreBounded result }
@@ -104,7 +104,7 @@ impl Taking {
         next.with_word(LittleEndian::read_u64(&next.word))
     }
 
-    /// Reads the word that is whole now.
+    /// Reads the word that is now whole.
     fn with_word(self, v: u64) -> Result<Taking, StreamFault>
         requires bounded { AreBounded self }
         requires word { 8 ≤ self.taken }
@@ -135,7 +135,7 @@ impl Taking {
         Ok(self)
     }
 
-    /// Tests the counts of the info page, which is whole now.
+    /// Tests the counts of the info page, which is now whole.
     fn with_counts(self) -> Result<Taking, StreamFault>
         requires bounded { AreBounded self }
         requires info { self.taken ≡ 4096 }
@@ -190,7 +190,7 @@ impl Taking {
         })
     }
 
-    /// Takes bytes after the words that are tested, of which only the count matters.
+    /// Takes bytes after the tested words. Only their number matters.
     fn with_rest(self, rest: &[u8]) -> Result<Taking, StreamFault>
         requires bounded { AreBounded self }
         requires behind { self.numbers_end ≤ self.taken }
@@ -213,7 +213,7 @@ impl Taking {
     }
 }
 
-/// Tests a frame number, which has to be at least so great.
+/// Tests a frame number, which must be at least `least`.
 fn check_number(least: u64, at: u64, v: u64) -> Result<(), StreamFault>
     ensures fault { (fault : StreamFault) → (result ≡ Err fault) ↔ (fault_at at (kind_of_number least v) ≡ Some fault) }
     ensures small { IsOk result → v < 65536 }

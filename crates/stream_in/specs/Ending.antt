@@ -1,4 +1,4 @@
--- What the end of a stream does: the image is marked.
+-- What the end of a stream does: it marks the image.
 use Rattle.std.specs.Prelude.{◌≡◌, ◌↔◌, ℕ, List, Option, Some, Result, Err, IfOk, IfErr, IfSome, OnOk}
 use Rattle.definitions.specs.Disk.{Content, DiskImage, Changes, as_it_reads, block}
 use Rattle.plain_machine.specs.Image.{laid_block}
@@ -23,7 +23,7 @@ pub record EndsStream (s : StreamIn) (answer : Result ℕ InStop) : Type 0 where
       (answer ≡ Err (stop.Stream fault)) ↔ (short_fault bs ≡ Some fault)
   pub saved : (free bs : List ℕ) → IsFed free bs s → IfOk answer (λ n. n ≡ image_pages bs)
 
--- The image is marked, and has come in; after a failure too an image of the disk that is marked now is whole.
+-- The image has come in and is marked. Even after a failure, an image of the disk that is marked only now is whole.
 pub record MarksStream (s : StreamIn) (answer : Result ℕ InStop) (old new : Option Content) : Type 0 where
   pub marked : (free bs : List ℕ) → IsFed free bs s → OnOk answer (Changes (Marks (laid_block s.map free 0)) old new)
   pub holds : (area : Area) (free bs : List ℕ) → TakesInto area free bs s →
@@ -31,7 +31,7 @@ pub record MarksStream (s : StreamIn) (answer : Result ℕ InStop) (old new : Op
   pub whole : (area : Area) (free bs : List ℕ) → TakesInto area free bs s →
       IfSome old (λ held. IfSome new (LeavesWhole area free bs held))
 
--- Why an image isn't marked is one of these reasons, and what it says that is left of the image is left.
+-- If the image isn't marked, the reason is one of these, and it says correctly what is left of the image.
 pub record StopsMark {T : Type 0} (reasons : InStop → Type 0) (answer : Result T InStop)
     (old new : Option Content) : Type 0 where
   pub leaves : IfErr answer (λ why. Changes (LeavesAt why) old new)
@@ -39,7 +39,7 @@ pub record StopsMark {T : Type 0} (reasons : InStop → Type 0) (answer : Result
   pub no_swap : IfErr answer (λ why. IfNoSwap why (λ reason. IfSome old
       (λ held. kind_fault (area_kind (block (as_it_reads held) 0)) ≡ Some reason)))
 
--- What a cut may leave now and not before, of a disk that tells moments: the marked header block, of a whole image.
+-- What a cut may leave now but not before, on a disk that tells moments: the marked header block of a whole image.
 pub record LeavesMark (s : StreamIn) (before now : ℕ) (past since : ℕ → DiskImage → Type 0)
     (old : Option Content) : Type 0 where
   pub time : (free bs : List ℕ) → IsFed free bs s →

@@ -1,4 +1,4 @@
--- What marking an image makes of the disk: the syncs, and the writes of block 0 (mark_swapfiles, kernel/power/swap.c).
+-- What marking an image does to the disk: the syncs, and the writes of block 0 (mark_swapfiles, kernel/power/swap.c).
 use Rattle.std.specs.Prelude.{◌≡◌, ◌⊎◌, ◌<◌, ℕ}
 use Rattle.definitions.specs.Disk.{Content, as_it_reads, block, settled, SameOutside}
 use Rattle.definitions.specs.SwapHeader.{IsMarked}
@@ -11,7 +11,7 @@ use Rattle.stream_in.specs.declared.stop.InStop.TheVariants as stop
 abbrev pub Keeps : Content → Content → Type 0
 Keeps old new = (new ≡ old) ⊎ (new ≡ settled (as_it_reads old))
 
--- Each image of the disk has the other blocks as the disk read before, and none of the two is written but block 0.
+-- Only block 0 may have been written: in each image of the disk the other blocks are as the disk read before.
 abbrev pub KeepsOthers : Content → Content → Type 0
 KeepsOthers old new = SameOutside 0 (settled (as_it_reads old)) new
 
@@ -21,13 +21,13 @@ pub record Unmarks (old new : Content) : Type 0 where
   pub unmarked : IsMarked (block (as_it_reads new) 0) → ⊥
   pub others : (b : ℕ) → 0 < b → block (as_it_reads new) b ≡ block (as_it_reads old) b
 
--- What a fault leaves, by what it says of the image.
+-- What a fault leaves, by what it reports of the image.
 abbrev pub Leaves : Left → Content → Content → Type 0
 Leaves Same old new = Keeps old new
 Leaves Gone old new = Unmarks old new
 Leaves Unsure old new = KeepsOthers old new
 
--- what a stop says that is left, where it is one of a call of the disk
+-- what a stop leaves: if a disk call failed, what the stop reports; else block 0 isn't written
 abbrev pub LeavesAt : InStop → Content → Content → Type 0
 LeavesAt (stop.ReadFault left) old new = Leaves left old new
 LeavesAt (stop.WriteFault left) old new = Leaves left old new

@@ -14,8 +14,8 @@ use Rattle.stream_in.specs.declared.session.StreamIn.{StreamIn}
 use Rattle.stream_in.specs.declared.stop.InStop.{InStop}
 use Rattle.stream_in.specs.declared.stop.InStop.TheVariants as stop
 
--- What the answer says, where the session had taken these bytes: it has taken the piece too, or the two together have
--- this fault. A fault is told where the free slots suffice, and else how few they are.
+-- What the answer says of a session that had taken these bytes: it has taken the piece too, or the bytes and the piece
+-- together have this fault. A fault is reported only if the free slots suffice; else their number is.
 pub record AnswersPiece (piece : List ℕ) (answer : Result (Unit {0}) InStop) (s s' : StreamIn) : Type 0 where
   pub taken : (free bs : List ℕ) → IsFed free bs s → OnOk answer (IsFed free (bs ++ piece) s')
   pub stream : (free bs : List ℕ) → IsFed free bs s → (fault : StreamFault) →
@@ -25,7 +25,7 @@ pub record AnswersPiece (piece : List ℕ) (answer : Result (Unit {0}) InStop) (
   pub too_few : (free bs : List ℕ) → IsFed free bs s → (told need : ℕ) →
       answer ≡ Err (stop.NoSlots told need) → HasTooFewFor free (bs ++ piece) told need
 
--- What is written: the pages that the piece fills, and to no other blocks than those of the slots that were free.
+-- What is written: the pages that the piece fills, and only to blocks of the slots that were free.
 pub record WritesPiece (piece : List ℕ) (answer : Result (Unit {0}) InStop) (s : StreamIn)
     (old new : Option Content) : Type 0 where
   pub done : (free bs : List ℕ) → IsFed free bs s → AreOfMap s.map free →
@@ -35,7 +35,7 @@ pub record WritesPiece (piece : List ℕ) (answer : Result (Unit {0}) InStop) (s
   pub stopped : (free bs : List ℕ) → IsFed free bs s →
       OnErr answer (Changes (StopsAtRest s.map free (length bs)) old new)
 
--- The same of an area that the stream is taken into: the session takes the piece, and the disk stays ready for it.
+-- The same for an area that the stream is taken into: the session takes the piece, and the disk stays ready for it.
 pub record FillsArea (piece : List ℕ) (answer : Result (Unit {0}) InStop) (s s' : StreamIn)
     (old new : Option Content) : Type 0 where
   pub into : (area : Area) (free bs : List ℕ) → TakesInto area free bs s →
@@ -43,13 +43,13 @@ pub record FillsArea (piece : List ℕ) (answer : Result (Unit {0}) InStop) (s s
   pub ready : (area : Area) (free bs : List ℕ) → TakesInto area free bs s →
       OnOk answer (Changes (StaysReady area free bs piece) old new)
 
--- What a cut may leave now and not before, of a disk that tells moments: other bytes in blocks of the free slots, and
+-- What a cut may leave now but not before, on a disk that tells moments: other bytes in blocks of the free slots, and
 -- no other header block.
 pub record LeavesMoments (s : StreamIn) (before now : ℕ) (past since : ℕ → DiskImage → Type 0) : Type 0 where
   pub time : (free bs : List ℕ) → IsFed free bs s → ElapsesOutside s.map free before now past since
   pub header : (area : Area) (free bs : List ℕ) → TakesInto area free bs s → AddsNoHeader before past since
 
--- the session is one over the same blocks of the same disk
+-- the session still has the same blocks of the same disk
 pub record StaysOn (s s' : StreamIn) : Type 0 where
   pub blocks : s'.blocks ≡ s.blocks
   pub map : s'.map ≡ s.map

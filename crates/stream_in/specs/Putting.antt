@@ -1,5 +1,5 @@
--- How far the pages of a stream are written. A page is written as it is full, with the map that it fills, and after
--- the last page the last map.
+-- How far the pages of a stream are written. A page is written when it is full, with the map that it fills; the last
+-- map follows the last page.
 use Rattle.std.specs.Prelude.{◌≡◌, ◌<◌, ◌≤◌, ◌==◌, ℕ, ◌+◌, ◌%◌, ◌^◌, ◌||◌, Bool, false, IsTrue, List, length}
 use Rattle.std.specs.Prelude.{Option, Some, None, ⊤, Result, Err, IfOk, IfErr}
 use Rattle.definitions.specs.Disk.{Content, Changes}
@@ -21,18 +21,17 @@ is_map_next (More k writes) = (k % 512 == 511) || (k + 1 == writes)
 is_map_next Done = false
 is_map_next Fault = false
 
--- One page more is written, with the maps that follow it.
+-- One more page is written, with the maps that follow it.
 pub record IsPagePut (free : List ℕ) (frames : List (List ℕ)) (old new : Writing) : Type 0 where
   pub image : IsSameImage old new
   pub written : new.written ≡ writes_after old.info.pages (page_of_write old.written + 1)
   pub going : new.written < writes_of old.info → IsWriting free frames new
 
--- the pages of the stream, by its first page, and whether its counts are those of an image
+-- the counts on the stream's first page are those of an image
 abbrev pub HasCounts : List ℕ → Type 0
 HasCounts page = IsTrue (are_counts (image_pages page) (all_pages page))
 
--- A page can be written. It is the first one, and these slots are free, whose blocks the disk has and a 32-bit number
--- can name.
+-- The first page can be written: these slots are free, and their blocks are on the disk and have 32-bit numbers.
 pub record CanBegin (free : List ℕ) (frames : List (List ℕ)) (table : SlotTable) (extents : List (ℕ × ℕ
     × ℕ)) (blocks : ℕ) (page : List ℕ) : Type 0 where
   pub counts : HasCounts page
@@ -41,7 +40,7 @@ pub record CanBegin (free : List ℕ) (frames : List (List ℕ)) (table : SlotTa
   pub on_disk : BlocksBelow extents free (length free) blocks
   pub named : BlocksBelow extents free (length free) (2 ^ 32)
 
--- Or it is a later one, and these slots were free at the first.
+-- A later page can be written: these slots were free at the first.
 pub record CanGoOn (free : List ℕ) (frames : List (List ℕ)) (table : SlotTable) (extents : List (ℕ × ℕ
     × ℕ)) (blocks : ℕ) (w : Writing) : Type 0 where
   pub writing : IsWriting free frames w
@@ -93,8 +92,8 @@ pub record HasTooFew (free : List ℕ) (page : List ℕ) (old : Option Writing) 
   pub told_need : need ≡ all_pages page + 1026
   pub fewer : told < need
 
--- What the put of a full page says, where it can be put and these slots are free: the page is written where they
--- suffice, to no other blocks than theirs; or they are too few, or a call of the disk failed.
+-- What the put of a full page reports if the page can be put and these slots are free: the page is written, if the
+-- slots suffice, and only to their blocks; or they are too few, or a call of the disk failed.
 pub record PutsFull (free : List ℕ) (frames : List (List ℕ)) (table : SlotTable) (extents : List (ℕ × ℕ
     × ℕ)) (page : List ℕ) (old : Option Writing) (answer : Result Writing InStop)
     (before now : Option Content) : Type 0 where
@@ -107,7 +106,7 @@ pub record PutsFull (free : List ℕ) (frames : List (List ℕ)) (table : SlotTa
   pub outside : IfOk answer (λ next. Changes (PutsAtRest extents free old) before now)
   pub stopped : IfErr answer (λ why. Changes (FailsAtRest extents free old) before now)
 
--- The writer is at a page: its own, or one that has just begun.
+-- The writer is at a page: it is the old one, or one that has just begun.
 pub record IsAtPage (free : List ℕ) (frames : List (List ℕ)) (table : SlotTable) (extents : List (ℕ × ℕ
     × ℕ)) (blocks : ℕ) (page : List ℕ) (old : Option Writing) (w : Writing) : Type 0 where
   pub writing : IsWriting free frames w

@@ -14,17 +14,17 @@ use Rattle.stream_in.specs.Holding.{AreOfMap, writes_after}
 use Rattle.stream_in.specs.declared.session.StreamIn.{StreamIn}
 use Rattle.stream_in.specs.declared.stop.InStop.{InStop}
 
--- the bytes of the page that has begun
+-- the bytes so far of the page that is being filled
 abbrev pub HasPage : List ℕ → List ℕ → Type 0
 HasPage bs page =
     (i : ℕ) → i < length bs % 4096 → slice_index page i ≡ slice_index bs (length bs - length bs % 4096 + i)
 
--- The info page isn't whole, and these slots are free.
+-- The info page isn't whole yet, and these slots are free.
 pub record IsUnbegun (free bs : List ℕ) (frames : List (List ℕ)) (table : SlotTable) : Type 0 where
   pub early : length bs < 4096
   pub is_free : free_in frames table ≡ free
 
--- The pages that are whole are written, with the maps that they fill, to these slots, which suffice.
+-- The whole pages are written to these slots, which suffice, with the maps that they fill.
 pub record IsBegun (free bs : List ℕ) (frames : List (List ℕ)) (table : SlotTable) (extents : List (ℕ × ℕ
     × ℕ)) (w : Writing) : Type 0 where
   pub late : 4096 ≤ length bs
@@ -40,8 +40,8 @@ abbrev pub IsOutput : List ℕ → List ℕ → List (List ℕ) → SlotTable �
 IsOutput free bs frames table extents None = IsUnbegun free bs frames table
 IsOutput free bs frames table extents (Some w) = IsBegun free bs frames table extents w
 
--- A session that isn't stopped has taken just these bytes, in which no fault was found. These slots were free when it
--- was opened.
+-- A session that isn't stopped has taken exactly these bytes, in which no fault was found. These slots were free when
+-- it was opened.
 pub record IsFed (free bs : List ℕ) (s : StreamIn) : Type 0 where
   pub taken : HasTaken bs s.checker
   pub going : s.stop ≡ None
@@ -59,18 +59,17 @@ IsGoing s = (free : List ℕ) × (bs : List ℕ) × IsFed free bs s
 abbrev pub IsStopped : StreamIn → Type 0
 IsStopped s = (why : InStop) × (s.stop ≡ Some why)
 
--- each session that is handed out is one of the two
+-- each session that is handed out is stopped or going
 abbrev pub IsSession : StreamIn → Type 0
 IsSession s = IsStopped s ⊎ IsGoing s
 
--- A session that was just opened over an area: it has taken no byte, slot s lies on block s, and the area's slots are
--- free.
+-- A session just opened over an area: it has taken no byte, slot s lies on block s, and the area's slots are free.
 pub record IsOpened (area : Area) (blocks : ℕ) (s : StreamIn) : Type 0 where
   pub fed : (free : List ℕ) × AreUsable area free × AreOfMap s.map free × IsFed free [] s
   pub map_is : s.map ≡ (0, area.last + 1, 0) ∷ []
   pub blocks_are : s.blocks ≡ blocks
 
--- A session that takes an image into these slots of this area, and has taken these bytes.
+-- A session that writes an image into these slots of this area, and has taken these bytes.
 pub record TakesInto (area : Area) (free bs : List ℕ) (s : StreamIn) : Type 0 where
   pub fed : IsFed free bs s
   pub map_is : s.map ≡ first_blocks area

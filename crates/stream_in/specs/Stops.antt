@@ -1,4 +1,4 @@
--- Why an image doesn't come in, by kinds.
+-- The reasons why an image doesn't come in, by kind.
 use Rattle.std.specs.Prelude.{◌≡◌, ⊤}
 use Rattle.plain_machine.specs.declared.reply.Left.TheVariants.{Same}
 use Rattle.plain_machine.specs.declared.no_swap.NoSwap.{NoSwap}
@@ -27,7 +27,7 @@ IsOfHeader (ReadFault left) = ⊤
 IsOfHeader (WriteFault left) = ⊤
 IsOfHeader (SyncFault left) = ⊤
 
--- what holds of the reason of NoSwap
+-- what holds of the reason that NoSwap gives
 abbrev pub IfNoSwap : InStop → (NoSwap → Type 0) → Type 0
 IfNoSwap NoMemory P = ⊤
 IfNoSwap (stop.NoSwap why) P = P why
@@ -37,7 +37,7 @@ IfNoSwap (ReadFault left) P = ⊤
 IfNoSwap (WriteFault left) P = ⊤
 IfNoSwap (SyncFault left) P = ⊤
 
--- the stops that writing a page may end with; where a call failed the header block isn't written
+-- the stops that writing a page may end with; if a disk call failed, the header block isn't written
 abbrev pub IsOfPage : InStop → Type 0
 IsOfPage NoMemory = ⊥
 IsOfPage (stop.NoSwap why) = ⊥

@@ -6,11 +6,11 @@ ghost use Rattle.stream_in.specs.Area.{open_fault};
 use plain_machine::NoSwap;
 use sig_header::{Area, AreaKind};
 
-/// A slot table has at most this many slots.
+/// The most slots that a slot table has.
 pub(crate) const MOST_SLOTS: u32 = 131_072;
 
-/// The area of a header block, where it is a version 1 area whose slots are the first blocks of a disk of so many, and
-/// whose slots a table can hold.
+/// Returns the area of a header block, if it is a version 1 area whose slots are among the first `blocks` blocks of the
+/// disk and fit a slot table.
 pub(crate) fn usable(kind: AreaKind, blocks: u32) -> Result<Area, NoSwap>
     ensures { MatchResult result
         (λ area. (kind ≡ area_kind.Swap area) × (open_fault blocks kind ≡ None))
@@ -30,7 +30,7 @@ pub(crate) fn usable(kind: AreaKind, blocks: u32) -> Result<Area, NoSwap>
     Ok(area)
 }
 
-/// The area of a header block that is a version 1 area.
+/// Returns the area of a header block, if it is a version 1 area without an image.
 pub(crate) fn version_1(kind: AreaKind) -> Result<Area, NoSwap>
     ensures { MatchResult result
         (λ area. (kind ≡ area_kind.Swap area) × (kind_fault kind ≡ None))

@@ -20,7 +20,7 @@ use plain_machine::Left;
 use sector_disk::Disk;
 use sig_header::{AreaKind, SF_NOCOMPRESS_MODE, mark, take_back};
 
-/// The header block, which is zeros on a disk without blocks.
+/// Reads the header block, which counts as zeros on a disk without blocks.
 pub(crate) fn read_header<D: Disk>(disk: &mut D) -> Result<Page, InStop>
     ensures header { IfOk result (λ page. IfSome (D.content disk.old)
         (λ held. page ≡ first_block (D.block_count disk.old) (as_it_reads held))) }
@@ -40,7 +40,7 @@ pub(crate) fn read_header<D: Disk>(disk: &mut D) -> Result<Page, InStop>
     }
 }
 
-/// Syncs the image's blocks, and marks the header block with its first map's.
+/// Syncs the image's blocks, and marks the header block with `first`, the block of the first map.
 pub(crate) fn mark_image<D: Disk>(disk: &mut D, first: u32) -> Result<(), InStop>
     requires { 0 < D.block_count disk.old }
     ensures marked { OnOk result (Changes (Marks first) (D.content disk.old) (D.content disk.new)) }
@@ -79,7 +79,7 @@ fn header_to_mark<D: Disk>(disk: &mut D) -> Result<Page, InStop>
     }
 }
 
-/// Writes the marked header block and syncs, and undoes that where one of the two failed.
+/// Writes the marked header block and syncs; if either fails, undoes the mark.
 fn write_mark<D: Disk>(disk: &mut D, marked: &Page) -> Result<(), InStop>
     requires { 0 < D.block_count disk.old }
     ensures marked { OnOk result (Changes (HasHeader marked.now) (D.content disk.old) (D.content disk.new)) }
@@ -106,7 +106,7 @@ fn write_mark<D: Disk>(disk: &mut D, marked: &Page) -> Result<(), InStop>
     }
 }
 
-/// Writes the header block taken back, and syncs: what is then left of the mark.
+/// Writes the header block taken back, and syncs. Returns what is then left of the mark.
 fn undo<D: Disk>(disk: &mut D, marked: &Page) -> Left
     requires { 0 < D.block_count disk.old }
     ensures left { (result ≡ left.Gone) ⊎ (result ≡ left.Unsure) }

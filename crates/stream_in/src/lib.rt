@@ -1,5 +1,6 @@
-//! An image that comes as a stream of bytes, written into a swap area and marked there, as a hibernation leaves it
-//! (snapshot_write_next and load_header, kernel/power/snapshot.c; save_image and mark_swapfiles, kernel/power/swap.c).
+//! Imports an image: takes it as a stream of bytes, writes it into a swap area and marks it there, as a hibernation
+//! leaves it (snapshot_write_next and load_header, kernel/power/snapshot.c; save_image and mark_swapfiles,
+//! kernel/power/swap.c).
 #![tactic(auto)]
 
 mod area;

@@ -27,11 +27,11 @@ use plain_machine::Left;
 use sector_disk::Disk;
 use swap_slots::FreeRuns;
 
-/// So many slots more than the image has pages must be free.
+/// The free slots that an image needs beyond its number of pages.
 const SPARE_SLOTS: u32 = 1026;
 
-/// Writes a page that is full, and the maps that follow it. At the first one the writer begins, and the disk is synced
-/// before anything is written.
+/// Writes a full page, and the maps that follow it. At the first page the writer begins, and the disk is synced before
+/// anything is written.
 pub(crate) fn put_full<D: Disk>(
     writer: Option<Writer>,
     frames: &mut Frames,
@@ -86,7 +86,7 @@ fn at_rest<D: Disk>(disk: &mut D, begins: bool) -> Result<(), InStop>
     }
 }
 
-/// The writer of the image; before the first page it begins.
+/// Returns the writer of the image, which begins at the first page.
 fn at_page(
     writer: Option<Writer>,
     frames: &mut Frames,
@@ -117,7 +117,7 @@ fn at_page(
     }
 }
 
-/// Begins to write an image with this info page, where slots enough are free.
+/// Begins to write an image with this info page, if enough slots are free.
 fn begin(
     frames: &mut Frames,
     runs: &mut FreeRuns,
@@ -149,7 +149,7 @@ fn begin(
     Ok(Writer::begin(frames, runs, slots.table, slots.map, &info))
 }
 
-/// Writes the next page of the stream, the map that it fills, and the last map after the last page.
+/// Writes the next page of the stream, the map that it fills, and after the last page the last map.
 fn put_page<D: Disk>(
     writer: &mut Writer,
     frames: &mut Frames,
@@ -192,7 +192,7 @@ fn put_page<D: Disk>(
     writer.put(frames, runs, disk, page)
 }
 
-/// Whether the next write is one of a map: it is full, or the last one.
+/// Returns whether the next write is that of a map, which is full or the last one.
 fn map_follows(step: WriteStep) -> bool
     ensures { result ≡ is_map_next step }
 {

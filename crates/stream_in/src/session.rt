@@ -26,15 +26,14 @@ use std::alloc::Global;
 use stream_check::Checker;
 use swap_slots::{FileMap, FreeRuns, SlotTable};
 
-/// Bytes of a page.
+/// The bytes of a page.
 const PAGE: usize = 4096;
 
-/// The page frames of the slot table.
+/// The number of page frames of the slot table.
 const TABLE_FRAMES: u32 = 128;
 
-/// An image that comes in: a stream of bytes whose pages are written into the swap area at the disk's first blocks, as
-/// they are full. It takes all its memory when it is opened. The slots that are free are told by a slot table of its
-/// own.
+/// An import of an image: a stream of bytes whose pages are written into the swap area at the disk's first blocks as
+/// soon as they are full. It takes all its memory when it is opened, and finds free slots in a slot table of its own.
 #[derive(Drop)]
 pub struct StreamIn {
     frames: Frames,
@@ -45,7 +44,7 @@ pub struct StreamIn {
     blocks: u32,
     checker: Checker,
     writer: Option<Writer>,
-    /// The page that has begun.
+    /// The page that is being filled.
     page: [u8; 4096],
     stop: Option<InStop>,
 }
@@ -60,7 +59,7 @@ impl StreamIn {
     ghost use Rattle.stream_in.specs.declared.stop.InStop.{InStop};
     ghost use Rattle.stream_in.specs.declared.stop.InStop.TheVariants as stop;
 
-    /// Reads the header block of the disk's area, which must be a version 1 area without an image.
+    /// Opens an import. Reads the header block of the disk's area, which must be a version 1 area without an image.
     pub fn open<D: Disk>(alloc: Global, disk: &mut D) -> Result<StreamIn, InStop>
         ensures opened { IfOk result (λ s. (area : AreaValue) × IsOpened area (D.block_count disk.old) s
             × IfSome (D.content disk.old)
@@ -94,7 +93,7 @@ impl StreamIn {
         }
     }
 
-    /// A session over this area, on a disk of so many blocks.
+    /// Makes a session over this area, on a disk of `blocks` blocks.
     fn over(mut frames: Frames, mut runs: FreeRuns, blocks: u32, area: &Area) -> StreamIn
         requires frames { frames ≡ replicate 128 zero_page }
         requires runs { runs.room ≡ 131072 }
@@ -120,15 +119,15 @@ impl StreamIn {
         }
     }
 
-    /// How many blocks the disk had when it was opened.
+    /// Returns how many blocks the disk had when the session was opened.
     pub fn blocks(&self) -> u32
         ensures { result ≡ self.now.blocks }
     {
         self.blocks
     }
 
-    /// Takes the next piece of the stream, of any length: each page is written as it is full. A session that was
-    /// stopped answers its stop again and makes no call of the disk.
+    /// Takes the next piece of the stream, of any length, and writes each page as it is full. A session that was
+    /// stopped returns its stop again and makes no call of the disk.
     pub fn feed<D: Disk>(&mut self, disk: &mut D, piece: &[u8]) -> Result<(), InStop>
         requires session { IsSession self.old }
         requires blocks { D.block_count disk.old ≡ self.old.blocks }
@@ -168,7 +167,7 @@ impl StreamIn {
         Ok(())
     }
 
-    /// Takes bytes of one page, of which so many have come before.
+    /// Takes bytes of one page, after the first `begun` bytes of that page.
     fn take<D: Disk>(&mut self, disk: &mut D, begun: usize, part: &[u8]) -> Result<(), InStop>
         requires session { (free : List ℕ) × (bs : List ℕ) × IsFed free bs self.old × (begun ≡ length bs % 4096) }
         requires part { begun + length part.now ≤ 4096 }
@@ -209,7 +208,7 @@ impl StreamIn {
         Ok(())
     }
 
-    /// Marks the image, whose pages are all written, and answers how many pages were saved.
+    /// Marks the image, whose pages are all written, and returns how many pages were saved.
     pub fn finish<D: Disk>(self, disk: &mut D) -> Result<u32, InStop>
         requires session { IsSession self }
         requires blocks { D.block_count disk.old ≡ self.blocks }
@@ -238,7 +237,7 @@ impl StreamIn {
     }
 }
 
-/// The block of the first map.
+/// Returns the block of the first map.
 fn first_of(writer: &Option<Writer>) -> u32
     requires { IsSome writer.now }
     ensures { (w : Writing) → writer.now ≡ Some w → result ≡ w.first }
@@ -249,7 +248,8 @@ fn first_of(writer: &Option<Writer>) -> u32
     }
 }
 
-/// Where the bytes of the page end that has begun, of a piece of so many from `at` on.
+/// Returns where the current page's bytes end in a piece of `len` bytes. They begin at `at`, after `begun` earlier
+/// ones.
 fn end_of_page(at: usize, begun: usize, len: usize) -> usize
     requires more { at < len }
     requires begun { begun < 4096 }
@@ -261,7 +261,7 @@ fn end_of_page(at: usize, begun: usize, len: usize) -> usize
     if len - at < room { len } else { at + room }
 }
 
-/// Each of so many slots lies on the block of its number.
+/// Returns the file map in which each of `slots` slots lies on the block of its number.
 fn whole_map(slots: u32) -> FileMap
     requires some { 1 ≤ slots }
     requires few { slots ≤ 131072 }

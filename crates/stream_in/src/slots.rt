@@ -8,14 +8,14 @@ use frame_arena::Frames;
 use sig_header::Area;
 use swap_slots::{FileMap, SlotEntry, SlotTable};
 
-/// The slots of an area: the table that tells which are free, and the blocks that they lie on.
+/// The slots of an area: the table that says which are free, and the blocks that they lie on.
 #[derive(Drop)]
 pub(crate) struct SwapSlots<'a> {
     pub table: &'a SlotTable,
     pub map: &'a FileMap,
 }
 
-/// Makes the slots that an area can't give bad: the header's, and its bad pages.
+/// Marks the slots that an area can't give as bad: the header's, and its bad pages.
 pub(crate) fn set_bad(frames: &mut Frames, table: &SlotTable, area: &Area)
     requires table { LiesIn frames.old table.now }
     requires bounds { HasBounds area.now }

@@ -17,7 +17,7 @@ pub enum InStop {
     /// The stream isn't in its grammar.
     #[error("{0}")]
     Stream(StreamFault),
-    /// A read of the disk failed; what is left there of the image.
+    /// A read of the disk failed. Says what is left of the image on the disk.
     #[error("a read failed, and the image is {0:?}")]
     ReadFault(Left),
     /// A write failed.

@@ -15,7 +15,7 @@ bytes_of i = concat (stream_of i)
 abbrev pub plain_image : Hardware → Memory → Image
 plain_image h m = image_of_memory h m no_slots Plain
 
--- The slots of tasks, whose pages are on the disk alone.
+-- The slots of tasks, whose pages are only on the disk.
 
 -- a slot table's entry is a task's number, from 1 to 64
 pub record IsTaskEntry (entry : ℕ) : Type 0 where

@@ -1,14 +1,14 @@
--- How far a stream of pages is handed out.
+-- How far a stream of pages has been handed out.
 use Rattle.std.specs.Prelude.{◌≡◌, ◌≤◌, ◌<◌, ℕ, ◌+◌, List, ◌++◌, length, take, drop}
 use Rattle.std.specs.List.{concat}
 use Rattle.stream_out.specs.declared.cursor.Cursor.{Cursor}
 
--- the bytes that are left of these pages after a cursor
+-- the bytes of these pages that are left after a cursor
 unfoldable pub left_behind : List (List ℕ) → Cursor → List ℕ
 left_behind pages cursor = drop cursor.at (concat (drop cursor.page pages))
 
--- So many bytes of a page are handed out into a piece. The cursor stands after them, or with the page's last byte
--- before the first one of the next page.
+-- `count` bytes of a page are handed out into a piece. The cursor then stands after them; after the page's last byte it
+-- stands before the first byte of the next page.
 pub record IsPart (page : List ℕ) (old new : Cursor) (before after : List ℕ) (count : ℕ) : Type 0 where
   pub whole : length page ≡ 4096
   pub fit : count ≤ length before

@@ -1,4 +1,4 @@
--- What a stream is in a contract: the bytes that are left; and what is kept of it.
+-- What a contract sees of a stream, the bytes that are left; and what is kept of the stream.
 use Rattle.std.specs.Prelude.{◌≡◌, ◌≤◌, ◌<◌, ℕ, ◌+◌, ◌-◌, List, length}
 use Rattle.definitions.specs.NumberPages.{meta_of}
 use Rattle.definitions.specs.Zones.{top}
@@ -20,6 +20,6 @@ pub record IsKept (s : Inside) : Type 0 where
   -- the page frames of the data pages before the cursor's page lie below `from`, and the others don't
   pub from : count_below s.saveable.now.members s.cursor.from ≡ s.cursor.page -
       (meta_of (length s.saveable.now.members) + 1)
-  -- a head page of which a part is handed out is kept
+  -- a head page that is handed out in part is kept
   pub head : 0 < s.cursor.at → s.cursor.page ≤ meta_of (length s.saveable.now.members) →
       IsHead s.hw.now s.saveable.now.members s.cursor.page s.head

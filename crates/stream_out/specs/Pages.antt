@@ -1,4 +1,4 @@
--- The pages of a stream by a machine's hardware and the set of its saveable page frames.
+-- The pages of a stream, by a machine's hardware and the set of its saveable page frames.
 -- In Linux: snapshot_read_next and init_header, kernel/power/snapshot.c.
 use Rattle.std.specs.Prelude.{◌≡◌, ℕ, ◌+◌, List, [], length, slice_index_or}
 use Rattle.definitions.specs.NumberPages.{meta_of, marked_numbers}
@@ -7,12 +7,12 @@ use Rattle.memory_bitmap.specs.FrameSet.{FrameSet}
 use Rattle.plain_machine.specs.Image.{stream_pages}
 use Rattle.plain_machine.specs.Machine.{Hardware, Memory, saveable, valid_count}
 
--- a set is that of the saveable page frames of a memory
+-- the set of a memory's saveable page frames
 pub record IsSaveableSet (h : Hardware) (m : Memory) (set : FrameSet) : Type 0 where
   pub zones : set.zones ≡ h.zones
   pub members : set.members ≡ saveable h m
 
--- what the info page says where so many page frames are saved, each with a data page
+-- what the info page says if n page frames are saved, each with a data page
 abbrev pub info_over : Hardware → ℕ → Info
 info_over h n = record { ident = h.ident; physpages = valid_count h; image_pages = n; pages = n + (meta_of n + 1) }
 

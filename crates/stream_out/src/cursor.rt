@@ -4,19 +4,19 @@ ghost use Rattle.stream_out.specs.Cursor.{IsPart};
 /// The bytes of a page.
 const PAGE_SIZE: usize = 4096;
 
-/// How far a stream is handed out.
+/// How far a stream has been handed out.
 #[derive(Clone, Copy)]
 pub struct Cursor {
-    /// The page that is next, or that is handed out, from 0.
+    /// The page being handed out, or the next one, from 0.
     pub page: u32,
-    /// How many of its bytes are handed out.
+    /// The number of its bytes already handed out.
     pub at: usize,
-    /// The least number that the page frame of the next data page may have.
+    /// A lower bound of the next data page's page frame number.
     pub from: u32,
 }
 
 impl Cursor {
-    /// Nothing is handed out.
+    /// Makes a cursor before the first byte.
     pub fn begin() -> Cursor
         ensures page { result.page ≡ 0 }
         ensures at { result.at ≡ 0 }
@@ -30,7 +30,7 @@ impl Cursor {
     }
 }
 
-/// Hands out what is left of a page, or as much of it as fits, and answers how many bytes that is.
+/// Hands out what is left of a page, or as much of it as fits, and returns the number of bytes.
 pub fn hand_out(page: &[u8; 4096], cursor: &mut Cursor, into: &mut [u8]) -> usize
     requires at { cursor.old.at < 4096 }
     requires few { cursor.old.page < 2 ^ 31 }
@@ -50,7 +50,7 @@ pub fn hand_out(page: &[u8; 4096], cursor: &mut Cursor, into: &mut [u8]) -> usiz
 
 ghost use Rattle.std.specs.Prelude.{◌≤◌, ◌⊎◌};
 
-/// The lesser of two counts.
+/// Returns the lesser of two counts.
 fn lesser(a: usize, b: usize) -> usize
     ensures first { result ≤ a }
     ensures second { result ≤ b }

@@ -10,17 +10,17 @@ use memory_bitmap::Bitmap;
 use page_core::Page;
 use pfn_pack::pack;
 
-/// How many numbers a number page has.
+/// The numbers that a number page holds.
 const NUMBERS: u32 = 512;
 
-/// How many pages come before those with data: the info page and the number pages of so many page frames.
+/// Returns how many pages come before the data pages: the info page and the number pages of `n` page frames.
 pub fn head_pages(n: u32) -> u32
     ensures { result ≡ meta_of n + 1 }
 {
     n.div_ceil(NUMBERS) + 1
 }
 
-/// What the info page says.
+/// Returns what the info page says.
 fn info(hw: &Hardware, n: u32) -> Info
     requires { n ≤ 65536 }
     ensures { result ≡ info_over hw.now n }
@@ -33,7 +33,7 @@ fn info(hw: &Hardware, n: u32) -> Info
     }
 }
 
-/// Page `k` of the stream, from 0, where that is the info page or a number page.
+/// Makes page `k` of the stream, from 0, which must be the info page or a number page.
 fn head_page(hw: &Hardware, saveable: &Bitmap, k: u32) -> Page
     requires { k ≤ meta_of (length saveable.now.members) }
     ensures { (saved : List (List ℕ)) → result ≡ slice_index_or (stream_over hw.now saveable.now.members saved) k [] }
@@ -49,7 +49,7 @@ fn head_page(hw: &Hardware, saveable: &Bitmap, k: u32) -> Page
 ghost use Rattle.stream_out.specs.Pages.{IsHead};
 ghost use Rattle.stream_out.specs.Cursor.{IsPart};
 
-/// Hands out a part of the info page or of a number page, which is made when its first byte is.
+/// Hands out a part of the info page or of a number page. The page is made when its first byte is handed out.
 pub fn hand_out_head(
     hw: &Hardware,
     saveable: &Bitmap,
@@ -78,7 +78,7 @@ ghost use Rattle.std.specs.Prelude.{◌-◌, All};
 ghost use Rattle.definitions.specs.Tables.{frame};
 ghost use Rattle.pfn_pack.specs.Places.{count_below};
 
-/// Hands out a part of the page in the page frame that is next.
+/// Hands out a part of the next data page, from its page frame.
 pub fn hand_out_data(
     frames: &Frames,
     saveable: &Bitmap,

@@ -7,10 +7,10 @@ use machine::{Hardware, slot_table};
 use swap_slots::SlotEntry;
 use thiserror::Error;
 
-/// Tasks are numbered from 1 up to this.
+/// The highest number of a task. The lowest is 1.
 const MOST_TASKS: u32 = 64;
 
-/// A task has pages in swap slots, which a stream can't hold.
+/// The refusal of a stream: a task has pages in swap slots, which a stream can't hold.
 #[derive(Clone, Copy, Debug, PartialEq, Eq, Error)]
 #[error("a task has slot {slot}")]
 pub struct SlotsInUse {
@@ -18,7 +18,7 @@ pub struct SlotsInUse {
     pub slot: u32,
 }
 
-/// The lowest slot that a task has.
+/// Returns the lowest slot that a task has.
 pub fn first_task_slot(frames: &Frames, hw: &Hardware) -> Option<u32>
     requires { length frames.now ≡ top hw.now.zones }
     ensures none { IsNone result ↔ HasNoTaskSlot hw.now frames.now }
@@ -37,7 +37,7 @@ ghost use Rattle.std.specs.Prelude.{IsTrue};
 ghost use Rattle.stream_out.specs.Bytes.{IsTaskEntry};
 ghost use Rattle.swap_slots.specs.Entries.{word_of};
 
-/// Whether a slot is a task's.
+/// Returns whether a slot is a task's.
 fn is_task(entry: SlotEntry) -> bool
     ensures { IsTrue result ↔ IsTaskEntry (word_of entry) }
 {

@@ -14,14 +14,14 @@ use memory_bitmap::Bitmap;
 use page_core::Page;
 use std::marker::Model;
 
-/// An image of a machine's memory that is handed out as bytes. A contract sees the bytes that are left.
+/// An image of a machine's memory that is being handed out as bytes. A contract sees the bytes that are left.
 #[derive(Drop)]
 pub struct StreamOut<'a> {
     frames: &'a Frames,
     hw: &'a Hardware,
     saveable: &'a Bitmap,
     cursor: Cursor,
-    /// The info page or the number page that is handed out.
+    /// The info page or the number page that is being handed out.
     head: Page,
 }
 
@@ -38,8 +38,8 @@ impl<'a> Model for StreamOut<'a> {
 }
 
 impl<'a> StreamOut<'a> {
-    /// The stream of the image of this memory in the plain format: its saveable page frames, which are those of the
-    /// set. Refused where a task has a slot.
+    /// Begins the stream of the image of this memory in the plain format. `saveable` must be the set of its saveable
+    /// page frames. Refuses if a task has a slot.
     pub fn begin(
         frames: &'a Frames,
         hw: &'a Hardware,
@@ -63,7 +63,7 @@ impl<'a> StreamOut<'a> {
         })
     }
 
-    /// Hands out the next bytes, as many as fit and are left, and answers how many.
+    /// Hands out the next bytes, as many as fit and are left, and returns how many.
     pub fn next(&mut self, into: &mut [u8]) -> usize
         ensures count { result ≡ min (length into.old) (length self.old) }
         ensures bytes { into.new ≡ take result self.old ++ drop result into.old }
@@ -80,7 +80,7 @@ impl<'a> StreamOut<'a> {
         filled
     }
 
-    /// Hands out the next bytes of one page. None where none is left.
+    /// Hands out the next bytes of one page, and returns how many: 0 if none is left.
     fn next_of_page(&mut self, into: &mut [u8]) -> usize
         requires { 0 < length into.old }
         ensures fit { result ≤ length into.old }

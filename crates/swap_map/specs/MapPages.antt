@@ -1,4 +1,4 @@
--- A page of the swap map as it is filled, and as it is read.
+-- A page of the swap map, as it is being filled and as it is read.
 use Rattle.std.specs.Prelude.{ℕ, List}
 
 -- the entries so far, and the link

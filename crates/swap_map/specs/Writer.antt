@@ -12,7 +12,7 @@ entries_of page count = map (map_entry page) (range_with_len 0 count)
 abbrev pub kept_entries : Inside → MapEntries
 kept_entries a = record { entries = entries_of a.page a.count; link = map_link a.page }
 
--- the page is that of its entries and its link
+-- the page is the one with its entries and its link
 pub record IsKept (a : Inside) : Type 0 where
   pub room : a.count ≤ 511
   pub page : a.page ≡ map_page (entries_of a.page a.count) (map_link a.page)

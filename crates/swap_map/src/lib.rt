@@ -8,5 +8,5 @@ mod writer;
 pub use reader::{ChainFault, MapReader};
 pub use writer::{MapWriter, Pushed};
 
-/// How many entries a map page has (MAP_PAGE_ENTRIES). The link is the word after them.
+/// The entries of a map page (MAP_PAGE_ENTRIES). The link is the word after them.
 const ENTRIES: usize = 511;

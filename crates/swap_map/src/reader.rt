@@ -17,7 +17,7 @@ pub enum ChainFault {
     ChainEnds { map: u32 },
 }
 
-/// A map page that is read. A contract sees the page and its number.
+/// A map page that is being read. A contract sees the page and its number.
 #[derive(Drop)]
 pub struct MapReader {
     page: Page,
@@ -33,7 +33,7 @@ impl Model for MapReader {
 }
 
 impl MapReader {
-    /// Reads this page, the map page of this number.
+    /// Makes a reader of this page, the map page with this number.
     pub fn of(page: &Page, map: u32) -> MapReader
         ensures page { result.page ≡ page.now }
         ensures map { result.map ≡ map }
@@ -44,7 +44,7 @@ impl MapReader {
         }
     }
 
-    /// Entry k: the block of a page of the image.
+    /// Returns entry k: the block of a page of the image.
     pub fn entry(&self, k: u32, limit: u32) -> Result<u32, ChainFault>
         requires { k < 511 }
         ensures block { IfOk result (λ block. block ≡ map_entry self.now.page k) }
@@ -55,7 +55,7 @@ impl MapReader {
         within(block, limit).ok_or(ChainFault::BadBlock { block })
     }
 
-    /// The block of the next map page.
+    /// Returns the block of the next map page.
     pub fn next(&self, limit: u32) -> Result<u32, ChainFault>
         ensures block { IfOk result (λ block. block ≡ map_link self.now.page) }
         ensures fits { IsOk result ↔ ((0 < map_link self.now.page) × (map_link self.now.page ≤ limit)) }
@@ -70,7 +70,7 @@ impl MapReader {
     }
 }
 
-/// The number of a block that is neither 0 nor above the limit.
+/// Returns the number of a block that is neither 0 nor above the limit.
 fn within(block: u64, limit: u32) -> Option<u32>
     ensures some { IsSome result ↔ ((0 < block) × (block ≤ limit)) }
     ensures same { IfSome result (λ b. b ≡ block) }

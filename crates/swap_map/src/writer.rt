@@ -8,12 +8,12 @@ use std::marker::Model;
 /// Whether a map page has room for another entry.
 #[derive(Clone, Copy, Debug, PartialEq, Eq)]
 pub enum Pushed {
-    /// It has its 511 entries.
+    /// The page has its 511 entries.
     Full,
     Room,
 }
 
-/// A map page that is filled. A contract sees its entries so far, and its link.
+/// A map page that is being filled. A contract sees its entries so far, and its link.
 #[derive(Drop)]
 pub struct MapWriter {
     page: Page,
@@ -33,7 +33,7 @@ impl Model for MapWriter {
 }
 
 impl MapWriter {
-    /// A map page with no entry and no link.
+    /// Makes a map page with no entry and no link.
     pub fn begin() -> MapWriter
         ensures entries { result.entries ≡ [] }
         ensures link { result.link ≡ 0 }
@@ -65,7 +65,7 @@ impl MapWriter {
         self.page.set_word(ENTRIES, next);
     }
 
-    /// The page as it stands.
+    /// Returns the page as it stands.
     pub fn page(&self) -> &Page
         ensures page { result.now ≡ map_page self.now.entries self.now.link }
         ensures room { length self.now.entries ≤ 511 }
@@ -74,7 +74,7 @@ impl MapWriter {
     }
 }
 
-/// What a page with so many entries has.
+/// Returns whether a page with `count` entries has room for more.
 fn room_after(count: usize) -> Pushed
     requires { count ≤ 511 }
     ensures full { (result ≡ Pushed.Full) ↔ (count ≡ 511) }

@@ -1,4 +1,4 @@
--- How the free slots are kept: a bit for each slot, and a bit for each word of those, 1 where the word isn't 0.
+-- How the free slots are kept: a bit for each slot, and for each word of those a bit that is 1 if the word isn't 0.
 use Rattle.std.specs.Prelude.{◌≡◌, ◌==◌, ℕ, ◌*◌, ◌/◌, ◌^◌, ◌<◌, ◌≤◌, List, length, filter}
 use Rattle.std.specs.List.{range_with_len}
 use Rattle.definitions.specs.FreeRuns.{runs_of}
@@ -16,8 +16,8 @@ kept_slots r = members_of r.room r.bits.items
 abbrev pub kept_runs : Inside → SlotRuns
 kept_runs r = record { room = r.room; runs = runs_of (kept_slots r) }
 
--- There is a bit for each slot and no other is 1. The summary has a bit for each word, 0 just where the word is 0. The
--- count is that of the free slots.
+-- There is a bit for each slot, and any others are 0. The summary has a bit for each word, which is 0 if and only if
+-- the word is 0. The count is the number of free slots.
 pub record AreKept (room count : ℕ) (bits summary : List ℕ) : Type 0 where
   pub size : room < 2 ^ 32
   pub slots : room ≤ 64 * length bits

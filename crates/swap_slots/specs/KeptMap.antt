@@ -1,4 +1,4 @@
--- How a file map is kept: a fixed array of extents, those past the last one (0, 0, 0).
+-- How a file map is kept: in a fixed array of extents, with (0, 0, 0) past the last one.
 use Rattle.std.specs.Prelude.{◌≡◌, ℕ, ◌-◌, ◌^◌, ◌<◌, List, ◌++◌, length, take, drop, replicate}
 use Rattle.std.proofs.Common.{sym, ap, ap₂, ◌∙◌}
 use Rattle.std.proofs.lemmas.List.{take-append-drop}
@@ -6,11 +6,11 @@ use Rattle.definitions.specs.Slots.{slots_of}
 use Rattle.definitions.specs.FileMaps.{IsFileMap}
 use Rattle.swap_slots.specs.declared.file_map.FileMap.TheInside.{Inside}
 
--- the extents, as `of` took them
+-- the extents that `of` was given
 abbrev pub kept_extents : Inside → List (ℕ × ℕ × ℕ)
 kept_extents m = take m.len m.extents
 
--- in order, and past the last only zeros
+-- the extents are in order, with only zeros past the last one
 pub record IsKeptMap (m : Inside) : Type 0 where
   pub map : IsFileMap (kept_extents m) (slots_of (kept_extents m))
   pub few : slots_of (kept_extents m) < 2 ^ 32

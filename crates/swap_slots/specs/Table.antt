@@ -14,15 +14,15 @@ IsOwner owner = ((1 ≤ owner) × (owner ≤ 64)) ⊎ (owner ≡ 65536)
 abbrev pub LiesIn : List (List ℕ) → SlotTable → Type 0
 LiesIn frames table = HasTable frames table.first table.slots
 
--- its free slots, ascending
+-- the table's free slots, ascending
 abbrev pub free_in : List (List ℕ) → SlotTable → List ℕ
 free_in frames table = free_slots table.slots table.first frames
 
--- those of the image, ascending
+-- the image's slots, ascending
 abbrev pub image_in : List (List ℕ) → SlotTable → List ℕ
 image_in frames table = image_slots table.slots table.first frames
 
--- the runs have room for those of the table, and are the runs of its free slots
+-- the runs are those of the table's free slots, and there is room for all of its slots
 pub record Matches (frames : List (List ℕ)) (table : SlotTable) (free : SlotRuns) : Type 0 where
   pub room : table.slots ≤ free.room
   pub runs : free.runs ≡ free_runs table.slots table.first frames

@@ -12,16 +12,16 @@ const BAD: u32 = 131072;
 pub enum SlotEntry {
     /// Nobody has the slot.
     Free,
-    /// The task with this number has it.
+    /// The task with this number has the slot.
     Task(u32),
-    /// The image has it.
+    /// The image has the slot.
     Image,
-    /// It is never given: the header's slot, or one that the area's header names as bad.
+    /// The slot is never given: it is the header's, or one that the area's header names as bad.
     Bad,
 }
 
 impl SlotEntry {
-    /// The entry's word in the table.
+    /// Returns the entry's word in the table.
     pub(crate) fn word(self) -> u32
         ensures { result ≡ word_of self }
     {
@@ -33,8 +33,8 @@ impl SlotEntry {
         }
     }
 
-    /// The entry with this word. A word that is none of the others counts as a task's number: a table with a word that
-    /// no slot may have is refused before a machine runs.
+    /// Returns the entry with this word. A word that is none of the others counts as a task's number: a table with a
+    /// word that no slot may have is refused before a machine runs.
     #[tactic(auto, unfolding(crate::specs::Entries::entry_of_word))]
     pub(crate) fn of(word: u32) -> SlotEntry
         ensures { result ≡ entry_of_word word }

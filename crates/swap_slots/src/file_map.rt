@@ -6,11 +6,11 @@ ghost use Rattle.swap_slots.specs.Extents.{Follows};
 
 use std::marker::Model;
 
-/// At most this many extents.
+/// The most extents that a file map may have.
 const MOST_EXTENTS: usize = 64;
 
 /// Where the slots of a swap area lie on the blocks of the device: extents (first slot, length, first block) in
-/// ascending order (struct swap_extent, include/linux/swap.h). A contract sees the list of them.
+/// ascending order (struct swap_extent, include/linux/swap.h). A contract sees the list of the extents.
 #[derive(Clone, Copy)]
 pub struct FileMap {
     extents: [(u32, u32, u32); MOST_EXTENTS],
@@ -34,8 +34,8 @@ impl Model for FileMap {
 }
 
 impl FileMap {
-    /// The file map of these extents, where they are in order and cover just so many slots. Else the index of the first
-    /// that is at fault: 0 where they are too few or too many, the one after the last where they don't cover the slots.
+    /// Makes the file map of these extents, if they are in order and cover exactly `slots` slots. Else returns the
+    /// index of the first at fault: 0 for too few or too many, the one after the last if they don't cover the slots.
     pub fn of(extents: &[(u32, u32, u32)], slots: u32) -> Result<FileMap, u32>
         ensures ok { IsOk result ↔ IsFileMap extents.now slots }
         ensures map { IfOk result (λ map. map ≡ extents.now) }
@@ -62,7 +62,7 @@ impl FileMap {
         })
     }
 
-    /// The extents, in the order of their slots.
+    /// Returns the extents, in the order of their slots.
     pub fn extents(&self) -> &[(u32, u32, u32)]
         ensures extents { result.now ≡ self.now }
         ensures map { IsFileMap self.now (slots_of self.now) }
@@ -70,7 +70,7 @@ impl FileMap {
         &self.extents[..self.len]
     }
 
-    /// The block of a slot. Past the last extent it goes on as that one does.
+    /// Returns the block of a slot. Slots past the last extent continue it.
     pub fn block(&self, s: u32) -> u64
         ensures block { result ≡ block_of self.now s }
         ensures map { IsFileMap self.now (slots_of self.now) }
@@ -79,7 +79,7 @@ impl FileMap {
         u64::from(block) + u64::from(s - start)
     }
 
-    /// The slot that lies on a block.
+    /// Returns the slot that lies on a block.
     pub fn slot_of(&self, block: u64) -> Option<u32>
         ensures slot { IfSome result (λ s. (s < slots_of self.now) × (block_of self.now s ≡ block)) }
         ensures none { IsNone result ↔ ((s : ℕ) → s < slots_of self.now → block_of self.now s ≡ block → ⊥) }
@@ -95,7 +95,7 @@ impl FileMap {
     }
 }
 
-/// Whether extent `i` is in order, where those before end at `end`.
+/// Returns whether extent `i` is in order, given that the extents before it end at slot `end`.
 fn is_in_order(extents: &[(u32, u32, u32)], i: usize, end: u64) -> bool
     requires within { i < length extents.now }
     requires end { end ≡ slots_before extents.now i }
@@ -105,7 +105,7 @@ fn is_in_order(extents: &[(u32, u32, u32)], i: usize, end: u64) -> bool
     follows(extent, end) && lies_apart(&extents[..i], extent)
 }
 
-/// Whether an extent that begins at slot `end` may stand after those before it, but for their blocks.
+/// Returns whether an extent may follow the extents that end at slot `end`, apart from their blocks.
 fn follows(extent: (u32, u32, u32), end: u64) -> bool
     ensures { IsTrue result ↔ Follows end extent }
 {
@@ -116,7 +116,7 @@ fn follows(extent: (u32, u32, u32), end: u64) -> bool
         && (block != 0 || start == 0)
 }
 
-/// Whether an extent has no block of the extents before it.
+/// Returns whether an extent shares no block with the extents before it.
 fn lies_apart(before: &[(u32, u32, u32)], extent: (u32, u32, u32)) -> bool
     ensures { IsTrue result ↔ ((j : ℕ) → j < length before.now → LieApart (extent_at before.now j) extent) }
 {
@@ -130,7 +130,7 @@ fn are_apart(a: (u32, u32, u32), b: (u32, u32, u32)) -> bool
     end(a) <= u64::from(b.2) || end(b) <= u64::from(a.2)
 }
 
-/// The last extent that doesn't begin above slot `s`.
+/// Returns the last extent that doesn't begin above slot `s`.
 fn last_from(extents: &[(u32, u32, u32)], s: u32) -> (u32, u32, u32)
     requires { IsFileMap extents.now (slots_of extents.now) }
     ensures start { result.0 ≤ s }

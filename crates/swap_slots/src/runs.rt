@@ -18,9 +18,9 @@ use std::marker::Model;
 pub struct FreeRuns {
     room: u32,
     count: u32,
-    /// A bit for each slot, 1 where it is free.
+    /// A bit for each slot, 1 if the slot is free.
     bits: Vec<u64>,
-    /// A bit for each word of `bits`, 1 where it isn't 0.
+    /// A bit for each word of `bits`, 1 if the word isn't 0.
     summary: Vec<u64>,
 }
 
@@ -37,7 +37,7 @@ impl Model for FreeRuns {
 }
 
 impl FreeRuns {
-    /// No free slot yet, with room for the free slots of a table of so many.
+    /// Makes runs without a free slot, with room for the free slots of a table of `slots` slots.
     pub fn create(alloc: Global, slots: u32) -> Result<FreeRuns, NoMemory>
         ensures { IfOk result (λ runs. runs ≡ record { room = slots; runs = [] }) }
     {
@@ -50,7 +50,7 @@ impl FreeRuns {
         })
     }
 
-    /// Makes the free slots those of a table.
+    /// Rebuilds the runs from the free slots of a table.
     pub fn rebuild(&mut self, frames: &Frames, table: &SlotTable)
         requires room { table.now.slots ≤ self.old.room }
         requires table { HasTable frames.now table.now.first table.now.slots }
@@ -64,14 +64,14 @@ impl FreeRuns {
         }
     }
 
-    /// How many slots are free.
+    /// Returns how many slots are free.
     pub(crate) fn count(&self) -> u32
         ensures { result ≡ length (numbers self.now.runs) }
     {
         self.count
     }
 
-    /// The least free slot.
+    /// Returns the least free slot.
     pub fn first(&self) -> Option<u32>
         ensures { result ≡ slice_get (numbers self.now.runs) 0 }
     {
@@ -90,7 +90,7 @@ impl FreeRuns {
         set_bit(&mut self.summary, s / 64);
     }
 
-    /// Makes a slot free no more.
+    /// Makes a slot no longer free.
     pub(crate) fn remove(&mut self, slot: u32)
         requires { slot < self.old.room }
         ensures { self.new ≡ record self.old { runs = runs_of (removed (numbers self.old.runs) slot) } }
@@ -102,7 +102,7 @@ impl FreeRuns {
         }
     }
 
-    /// Makes no slot free.
+    /// Makes every slot no longer free.
     pub(crate) fn clear(&mut self)
         ensures { self.new ≡ record self.old { runs = [] } }
     {
@@ -111,7 +111,7 @@ impl FreeRuns {
         self.count = 0;
     }
 
-    /// Run `j` of free slots, from 0: its first slot, and how many slots it has.
+    /// Returns run `j` of free slots, from 0: its first slot and its length.
     pub fn run(&self, j: u32) -> Option<(u32, u32)>
         ensures { result ≡ slice_get self.now.runs j }
     {
@@ -123,7 +123,7 @@ impl FreeRuns {
         Some(run)
     }
 
-    /// The first run of the free slots from `from` on.
+    /// Returns the first run of free slots from `from` on.
     fn run_from(&self, from: u32) -> Option<(u32, u32)>
         requires { from ≤ self.now.room }
         ensures { let slots = numbers self.now.runs in MatchOption result (from_slot from slots ≡ [])
@@ -136,7 +136,7 @@ impl FreeRuns {
         Some((start, self.next_taken(start) - start))
     }
 
-    /// The first free slot from `from` on, or the number of slots.
+    /// Returns the first free slot from `from` on, or the number of slots.
     fn next_free(&self, from: u32) -> u32
         requires { from ≤ self.now.room }
         ensures within { (from ≤ result) × (result ≤ self.now.room) }
@@ -151,7 +151,7 @@ impl FreeRuns {
         self.room
     }
 
-    /// The first slot from `from` on that isn't free, or the number of slots.
+    /// Returns the first slot from `from` on that isn't free, or the number of slots.
     fn next_taken(&self, from: u32) -> u32
         requires { from ≤ self.now.room }
         ensures within { (from ≤ result) × (result ≤ self.now.room) }
@@ -166,7 +166,7 @@ impl FreeRuns {
         self.room
     }
 
-    /// Whether a slot is free.
+    /// Returns whether a slot is free.
     fn has(&self, slot: u32) -> bool
         requires { slot < self.now.room }
         ensures { IsTrue result ↔ Contains (numbers self.now.runs) slot }

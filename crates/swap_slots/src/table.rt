@@ -6,20 +6,20 @@ ghost use Rattle.swap_slots.specs.Entries.{word_of, entry_of_word};
 use crate::{FreeRuns, SlotEntry};
 use frame_arena::Frames;
 
-/// The table of the slots of a swap area in page frames: a word of 4 bytes for each slot's entry, which is 0 where the
-/// slot is free, the number of the task that has it, 65536 where the image has it, and 131072 where it is bad.
+/// The table of the slots of a swap area, in page frames: a word of 4 bytes for each slot's entry, which is 0 if the
+/// slot is free, the number of the task that has it, 65536 if the image has it, and 131072 if it is bad.
 #[derive(Clone, Copy, Debug, PartialEq, Eq)]
 pub struct SlotTable {
     /// The first page frame.
     pub first: u32,
-    /// How many slots there are.
+    /// The number of slots.
     pub slots: u32,
 }
 
 impl SlotTable {
     ghost use Rattle.swap_slots.specs.Table.{IsOwner, LiesIn, Matches, free_in, image_in};
 
-    /// Gives the least free slot to `owner`: a task, or the image. `None` where no slot is free.
+    /// Gives the least free slot to `owner`: a task, or the image. Returns `None` if no slot is free.
     pub fn take(&self, frames: &mut Frames, runs: &mut FreeRuns, owner: SlotEntry) -> Option<u32>
         requires owner { IsOwner (word_of owner) }
         requires table { LiesIn frames.old self.now }
@@ -51,7 +51,7 @@ impl SlotTable {
         runs.insert(slot);
     }
 
-    /// The entry of a slot.
+    /// Returns the entry of a slot.
     pub fn entry(&self, frames: &Frames, slot: u32) -> SlotEntry
         requires slot { slot < self.now.slots }
         requires table { LiesIn frames.now self.now }
@@ -62,7 +62,7 @@ impl SlotTable {
         SlotEntry::of(frames.u32_at(p, at))
     }
 
-    /// Sets the entry of a slot. The free runs are to be told of it, or rebuilt.
+    /// Sets the entry of a slot. The caller must update the free runs, or rebuild them.
     pub fn set(&self, frames: &mut Frames, slot: u32, entry: SlotEntry)
         requires slot { slot < self.now.slots }
         requires table { LiesIn frames.old self.now }
@@ -74,7 +74,7 @@ impl SlotTable {
         frames.put_u32(p, at, entry.word());
     }
 
-    /// How many slots are free. A slot of the image isn't.
+    /// Returns how many slots are free. A slot of the image isn't free.
     pub fn free_count(&self, frames: &Frames, runs: &FreeRuns) -> u32
         requires table { LiesIn frames.now self.now }
         requires matches { Matches frames.now self.now runs.now }
@@ -92,7 +92,7 @@ impl SlotTable {
         ensures len { length frames.new ≡ length frames.old }
         ensures room { runs.new.room ≡ runs.old.room }
     {
-        // Each page frame has 4096 bytes, so that an entry that is set leaves the others.
+        // Each page frame has 4096 bytes, so setting an entry leaves the others.
         let _ = frames.len();
         for slot in 0..self.slots {
             if let SlotEntry::Image = self.entry(frames, slot) {
@@ -101,7 +101,7 @@ impl SlotTable {
         }
     }
 
-    // The page frame of a slot's entry, and the offset there.
+    // Returns the page frame of a slot's entry, and the entry's offset there.
     fn place(&self, frames: &Frames, slot: u32) -> (u32, usize)
         requires slot { slot < self.now.slots }
         requires table { LiesIn frames.now self.now }
@@ -110,7 +110,7 @@ impl SlotTable {
         ensures offset { result.1 ≡ 4 * (slot % 1024) }
         ensures pages { All IsPage frames.now }
     {
-        // The page frames of the table are below this, so their numbers fit.
+        // The page frames of the table are below the count, so their numbers fit.
         let _ = frames.len();
         (self.first + slot / 1024, 4 * (slot % 1024) as usize)
     }

@@ -2,7 +2,7 @@
 ghost use Rattle.std.specs.Prelude.{◌≡◌, ℕ, ◌+◌, ◌*◌, ◌/◌, ◌%◌, ◌^◌, ◌<◌, ◌≤◌, ◌↔◌, IsTrue, MatchOption, length};
 ghost use Rattle.swap_slots.specs.Bits.{bit_of, AllClear, IsClearWord, IsFirstBit, ChangesBit};
 
-/// Whether bit `k` is 1.
+/// Returns whether bit `k` is 1.
 pub fn has_bit(words: &[u64], k: usize) -> bool
     requires { k < 64 * length words.now }
     ensures { IsTrue result ↔ (bit_of words.now k ≡ 1) }
@@ -10,7 +10,7 @@ pub fn has_bit(words: &[u64], k: usize) -> bool
     words[k / 64] & (1 << (k % 64)) != 0
 }
 
-/// Makes bit `k` 1, and answers whether it was 0.
+/// Sets bit `k` to 1, and returns whether it was 0.
 pub fn set_bit(words: &mut [u64], k: usize) -> bool
     requires { k < 64 * length words.old }
     ensures was { IsTrue result ↔ (bit_of words.old k ≡ 0) }
@@ -23,7 +23,7 @@ pub fn set_bit(words: &mut [u64], k: usize) -> bool
     was_clear
 }
 
-/// Makes bit `k` 0, and answers whether it was 1.
+/// Sets bit `k` to 0, and returns whether it was 1.
 pub fn clear_bit(words: &mut [u64], k: usize) -> bool
     requires { k < 64 * length words.old }
     ensures was { IsTrue result ↔ (bit_of words.old k ≡ 1) }
@@ -36,7 +36,7 @@ pub fn clear_bit(words: &mut [u64], k: usize) -> bool
     was_set
 }
 
-/// Whether no bit of word `w` is 1.
+/// Returns whether no bit of word `w` is 1.
 pub fn is_clear_word(words: &[u64], w: usize) -> bool
     requires { w < length words.now }
     ensures { IsTrue result ↔ IsClearWord words.now w }
@@ -44,7 +44,7 @@ pub fn is_clear_word(words: &[u64], w: usize) -> bool
     words[w] == 0
 }
 
-/// The first bit from word `from` on that is 1. Words without one are skipped whole.
+/// Returns the first bit from word `from` on that is 1. Skips words without one as a whole.
 pub fn first_bit(words: &[u64], from: usize) -> Option<usize>
     requires { 64 * length words.now < 2 ^ 64 }
     ensures { MatchOption result (AllClear words.now (64 * from) (64 * length words.now))

@@ -13,17 +13,16 @@ use std::process::ExitCode;
 use std::{env, io};
 use swsusp_cli::{Choice, run, swap_name};
 
-/// The status of a file that can't be opened, which no run answers.
+/// The exit status if a file can't be opened; no run returns it.
 const NOT_OPENED: u8 = 7;
 
-/// How many bytes of a dump or a stream are asked for at once: a record of a dump costs a sixteenth of a call of the
-/// system.
+/// The bytes of a dump or a stream that are read at once: one system call for sixteen records of a dump.
 const INPUT_PIECE: usize = 65_536;
 
-/// How many bytes of a script are asked for at once. Most scripts are short, and each byte of the room costs time.
+/// The bytes of a script that are read at once. Most scripts are short, and each byte of the buffer costs time.
 const SCRIPT_PIECE: usize = 4096;
 
-/// How many bytes of a restored dump or of an exported image are handed to standard output at once.
+/// The bytes of a restored dump or of an exported image that are written to standard output at once.
 const OUTPUT_PIECE: usize = 65_536;
 
 fn main(rt: HostRuntime) -> ExitCode {
@@ -58,7 +57,7 @@ fn run_over_file(rt: &HostRuntime, words: &[String], path: &str) -> ExitCode {
     }
 }
 
-/// Opens the swap file, for `inspect` for reading alone. One that is an output itself is refused.
+/// Opens the swap file, read-only for `inspect`. Refuses one that is itself an output.
 fn open_swap(rt: &HostRuntime, words: &[String], path: &str) -> io::Result<FileDisk<File>> {
     if is_output(rt, path)? {
         return Err(io::ErrorKind::InvalidInput.into());
@@ -69,7 +68,7 @@ fn open_swap(rt: &HostRuntime, words: &[String], path: &str) -> io::Result<FileD
         FileDisk::open(rt, path)
     }
 }
-/// Runs over a disk in memory. A terminal as the output of `export` is refused.
+/// Runs over a disk in memory. Refuses a terminal as the output of `export`.
 fn run_over_memory(rt: &HostRuntime, words: &[String], blocks: u32) -> ExitCode {
     if is_command(words, "export") && words.len() == 2 && rt.stdout().is_terminal() {
         return sink_fault(rt);
@@ -87,8 +86,8 @@ fn is_command(words: &[String], name: &str) -> bool {
     }
 }
 
-/// Runs over a disk, with the standard streams. What was printed is synced before the run ends well: after a resume it
-/// is the only copy of a machine.
+/// Runs over a disk, with the standard streams. What was printed is synced before the run ends well, since after a
+/// resume it is the only copy of a machine.
 fn run_over<D: Disk>(rt: &HostRuntime, words: &[String], disk: &mut D) -> ExitCode {
     let Ok(reader) = BufReader::with_capacity(rt.alloc(), input_piece(words), rt.stdin()) else {
         return no_memory(rt);
@@ -106,7 +105,7 @@ fn run_over<D: Disk>(rt: &HostRuntime, words: &[String], disk: &mut D) -> ExitCo
     ExitCode::from(status.code())
 }
 
-/// How many bytes of standard input are asked for at once.
+/// Returns how many bytes of standard input are read at once.
 fn input_piece(words: &[String]) -> usize {
     if is_command(words, "replay") {
         SCRIPT_PIECE
@@ -115,8 +114,8 @@ fn input_piece(words: &[String]) -> usize {
     }
 }
 
-/// How many bytes are handed to standard output at once. The replies of a replay are handed on one by one, each before
-/// the next event.
+/// Returns how many bytes are written to standard output at once. The replies of a replay are written one by one, each
+/// before the next event.
 fn output_piece(words: &[String]) -> usize {
     if is_command(words, "resume") || is_command(words, "export") {
         OUTPUT_PIECE

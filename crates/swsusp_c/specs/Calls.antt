@@ -1,4 +1,4 @@
--- The numbers of a call, as include/swsusp.h names them.
+-- The numbers of a call, by their names in include/swsusp.h.
 use Rattle.std.specs.Prelude.{ℕ, Bool, ◌==◌, ◌||◌, Option, Some, None, if◌then◌else◌}
 use Rattle.definitions.specs.declared.info.Field.{Field}
 use Rattle.definitions.specs.declared.info.Field.TheVariants as field
@@ -57,13 +57,13 @@ call_code (Done n) = numbers 5 0 n 0
 call_code (Refused why) = cause_code why
 call_code (Failed call left) = numbers 7 (failed_code call) (left_code left) 0
 
--- the call of these numbers, where its caller makes it
+-- the call of these numbers, if it is one that the caller makes
 abbrev pub live_call : SwsuspCall → Option Call
 live_call c =
     if c.kind == 1 then Some Sync
     else (if c.kind == 2 then Some (Read c.first)
     else (if c.kind == 3 then Some (Write c.first) else (if c.kind == 4 then Some (Page c.first) else None)))
 
--- whether a call of these numbers is an end
+-- whether these numbers say that there is no further call
 abbrev pub is_over : SwsuspCall → Bool
 is_over c = (c.kind == 5) || ((c.kind == 6) || (c.kind == 7))

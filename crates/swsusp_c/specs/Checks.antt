@@ -1,4 +1,4 @@
--- The state of a check, as C keeps it, and what the functions do to it: what `Check` does.
+-- The state of a check, as C keeps it, and how the functions change it: as `Check` does.
 use Rattle.std.specs.Prelude.{◌≡◌, ℕ, ◌/◌, ◌+◌, ◌==◌, ◌++◌, ◌∷◌, Bool, true, false, List, [], length, Option, Some}
 use Rattle.std.specs.Prelude.{None, Ok, if◌then◌else◌, is_some, nat_lt, not}
 use Rattle.definitions.specs.Disk.{Content}
@@ -90,7 +90,7 @@ check_code c = record {
   map = c.names.walk.map;
 }
 
--- what a check keeps of the names of an image, by its numbers
+-- what a check keeps of the names of an image, from its numbers
 abbrev pub names_by : SwsuspCheck → Names
 names_by s = record {
   limits = record { blocks = s.blocks; header = s.header; last = s.last; bad = s.bad };
@@ -114,7 +114,7 @@ abbrev pub with_names : Option Stage → Names → Option Check
 with_names None n = None
 with_names (Some stage) n = Some (record { stage = stage; names = n })
 
--- the check of these numbers, where its stage is one
+-- the check of these numbers, if its stage is a valid one
 abbrev pub check_by : SwsuspCheck → Option Check
 check_by s = with_names (stage_by s.stage s.block) (names_by s)
 
@@ -126,7 +126,7 @@ step_numbers (step.Over Checked) = numbers 5 0 0 0
 
 -- which code a function returns
 
--- the caller lends fewer words than a bit for each block takes
+-- BAD_WORDS if the caller lends fewer words than one bit for each block takes
 abbrev pub words_code : (blocks : ℕ) → List ℕ → ℕ
 words_code blocks words = code_where (nat_lt (length words) (blocks / 64 + 1)) 7
 
@@ -139,14 +139,14 @@ check_fail_code s words = or_code (words_code s.blocks words) (check_state_code 
 abbrev pub check_answer_code : SwsuspCheck → List ℕ → List ℕ → ℕ
 check_answer_code s words page = or_code (page_code page) (check_fail_code s words)
 
--- before the first read, for any disk and whatever the words hold
+-- a check before its first read, for any disk and whatever the words hold
 pub record BeginsCheck (blocks header : ℕ) (s : SwsuspCheck) : Type 0 where
   pub check : Check
   pub is : s ≡ check_code check
   pub blocks_are : check.names.limits.blocks ≡ blocks
   pub found : (content : Option Content) (lent : List ℕ) → HasFound content 0 blocks header check lent [] []
 
--- one answer: as `Check::answer` has it, and the findings of it alone
+-- one answer: as in `Check::answer`, and only with this answer's findings
 pub record ChecksOn (old : Check) (words lent page : List ℕ) (s : SwsuspCheck) (f : SwsuspFindings) : Type 0 where
   pub check : Check
   pub is : s ≡ check_code check
@@ -156,7 +156,7 @@ pub record ChecksOn (old : Check) (words lent page : List ℕ) (s : SwsuspCheck)
       IsReadFrom content b (Ok page) → (more : List Finding)
       × (IsKept more f × HasFound content faults blocks header check lent (b ∷ asked) (so_far ++ more))
 
--- one failure: as `Check::fail` has it
+-- one failure: as in `Check::fail`
 pub record ChecksPast (old : Check) (words lent : List ℕ) (s : SwsuspCheck) (f : SwsuspFindings) : Type 0 where
   pub check : Check
   pub is : s ≡ check_code check

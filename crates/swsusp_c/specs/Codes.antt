@@ -1,4 +1,4 @@
--- Which code a function returns: the first of what is wrong with its arguments, and 0 where nothing is.
+-- Which code a function returns: that of the first of its arguments' faults, or 0 if there is none.
 use Rattle.std.specs.Prelude.{ℕ, zero, suc, ◌^◌, ◌==◌, ◌&&◌, ◌||◌, List, Bool, length, nat_le, nat_lt, not}
 use Rattle.std.specs.Prelude.{if◌then◌else◌, is_some}
 use Rattle.boot_resume.specs.Ranges.{misplaced}
@@ -12,20 +12,20 @@ use Rattle.swsusp_c.specs.declared.calls.SwsuspCall.{SwsuspCall}
 use Rattle.swsusp_c.specs.declared.machine.SwsuspMachine.{SwsuspMachine}
 use Rattle.swsusp_c.specs.declared.state.SwsuspResume.{SwsuspResume}
 
--- a code, or the next one where it is 0
+-- a code, or the next one if it is 0
 abbrev pub or_code : ℕ → ℕ → ℕ
 or_code zero next = next
 or_code (suc code) next = suc code
 
--- this code where something is wrong
+-- this code if something is wrong, else 0
 abbrev pub code_where : Bool → ℕ → ℕ
 code_where wrong code = if wrong then code else 0
 
--- the buffer hasn't 4096 bytes
+-- the buffer's length isn't 4096
 abbrev pub page_code : List ℕ → ℕ
 page_code page = code_where (not (length page == 4096)) 2
 
--- none of the three identities
+-- the identity is none of the three
 abbrev pub identity_code : ℕ → ℕ
 identity_code identity = code_where (nat_lt 2 identity) 6
 
@@ -33,7 +33,7 @@ identity_code identity = code_where (nat_lt 2 identity) 6
 abbrev pub memory_code : List FrameRange → ℕ
 memory_code memory = code_where (is_some (misplaced 0 0 memory)) 3
 
--- no page frames, or 2^52 and more
+-- the number of page frames is 0, or 2^52 or more
 abbrev pub present_code : ℕ → ℕ
 present_code n = code_where ((n == 0) || nat_le (2 ^ 52) n) 4
 
@@ -52,11 +52,11 @@ machine_code told memory =
     or_code (identity_code told.identity)
     (or_code (memory_code memory) (or_code (present_code told.present) (header_code told.blocks told.header)))
 
--- the counts of a resume: page frames saved below 2^52, no more of them given, and no more of those with data
+-- the counts of a resume: fewer than 2^52 page frames saved, no more given than saved, no more with data than given
 abbrev pub has_counts : SwsuspResume → Bool
 has_counts s = nat_lt s.saved (2 ^ 52) && (nat_le s.given s.saved && nat_le s.with_data s.given)
 
--- a resume that isn't over: one of the stages, a call that its caller makes, and such counts
+-- a resume that isn't over: a valid stage, a call that the caller makes, and possible counts
 abbrev pub is_state : SwsuspResume → Bool
 is_state s = is_some (stage_of s.stage) && (is_some (live_call s.call) && has_counts s)
 

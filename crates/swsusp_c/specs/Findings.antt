@@ -1,4 +1,4 @@
--- The numbers of a finding, as include/swsusp.h names them.
+-- The numbers of a finding, by their names in include/swsusp.h.
 use Rattle.std.specs.Prelude.{◌≡◌, ℕ, ◌==◌, ◌-◌, ◌≤◌, List, length, map, min, take, nat_lt, Some, if◌then◌else◌}
 use Rattle.definitions.specs.Disk.{last_count}
 use Rattle.sig_header.specs.declared.area.AreaFault.{AreaFault}
@@ -32,7 +32,7 @@ four k a b c d = record {
 abbrev pub two : (kind first second : ℕ) → SwsuspFinding
 two k a b = four k a b 0 0
 
--- at a place, and why a block is none of the image's
+-- a finding at a place, with why its block can't be one of the image's
 abbrev pub at_place : ℕ → Place → (fault first second : ℕ) → SwsuspFinding
 at_place k p fault a b = record {
   kind = k;
@@ -147,7 +147,7 @@ finding_of f =
 abbrev pub kept_in : SwsuspFindings → List Finding
 kept_in f = map finding_of (take f.count f.found)
 
--- What was told: the lines of the findings that are kept, and how many there were. A finding for which there is no room
+-- What was reported: the lines of the findings that are kept, and how many findings there were. A finding without room
 -- counts as a failure.
 abbrev pub told_of : SwsuspFindings → Told
 told_of f = record {
@@ -157,8 +157,8 @@ told_of f = record {
   faults = f.count - 1100;
 }
 
--- These findings are counted. Where there is room for all of them, those that are kept have their lines; else they have
--- a front of these.
+-- These findings are counted. If there is room for all of them, the kept ones have their lines; else the kept ones have
+-- a front of those lines.
 pub record IsKept (findings : List Finding) (f : SwsuspFindings) : Type 0 where
   pub count : f.count ≡ min (length findings) last_count
   pub whole : f.count ≤ 1100 → lines_of (kept_in f) ≡ lines_of findings

@@ -49,6 +49,6 @@ state_of r = record {
   numbers = r.reading.numbers;
 }
 
--- a resume that didn't end
+-- a resume that hasn't ended
 abbrev pub IsLive : Resume → Type 0
 IsLive r = IsEnd r.pending.call → ⊥

@@ -1,4 +1,4 @@
--- The numbers of a step at the end of an image, and what the functions do to them: what `Discard` does.
+-- The numbers of a step when an image is given up, and how the functions change them: as `Discard` does.
 use Rattle.std.specs.Prelude.{◌≡◌, ℕ, ◌==◌, List, length, Option, Some, None, if◌then◌else◌}
 use Rattle.boot_discard.specs.Steps.{Answered, failed_after}
 use Rattle.boot_discard.specs.declared.step.Left.{Left}
@@ -35,7 +35,7 @@ step_of c =
     else (if c.kind == 5 then Some step.Discarded
     else (if c.kind == 6 then refused_by c.reason else (if c.kind == 7 then failed_by c.first else None)))))
 
--- one answer: as `Discard::answer` has it
+-- one answer: as in `Discard::answer`
 pub record Follows (old : Step) (given : List ℕ) (new : SwsuspCall) (page : List ℕ) : Type 0 where
   pub next : Step
   pub is : new ≡ step_code next

@@ -12,11 +12,11 @@ compared_in told =
     if told.identity == 1 then same_kernel (record { version_code = told.version_code; names = told.names })
     else (if told.identity == 2 then same_bytes told.architecture else any_kernel)
 
--- the machine: its facts alone, wherever the struct and the ranges lie
+-- the machine: only its facts, wherever the struct and the ranges lie
 abbrev pub machine_in : SwsuspMachine → List FrameRange → Machine
 machine_in told memory = facts memory told.present (compared_in told) told.hardware_signature told.blocks told.header
 
--- what can be so: as `Machine::new` has it, with one of the three identities
+-- a possible machine: one that `Machine::new` accepts, with one of the three identities
 pub record IsTaken (told : SwsuspMachine) (memory : List FrameRange) : Type 0 where
   pub identity : told.identity ≤ 2
   pub ranges : AreApart memory

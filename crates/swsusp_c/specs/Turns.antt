@@ -1,4 +1,4 @@
--- What the functions do to the state of a resume: what `Resume` does.
+-- How the functions change the state of a resume: as `Resume` does.
 use Rattle.std.specs.Prelude.{◌≡◌, ℕ, ◌+◌, List, [], ◌∷◌, length}
 use Rattle.definitions.specs.Disk.{DiskImage}
 use Rattle.boot_resume.specs.Asked.{HasAsked, failed_by, left_behind}
@@ -14,14 +14,14 @@ use Rattle.swsusp_c.specs.Told.{IsTaken, machine_in}
 use Rattle.swsusp_c.specs.declared.machine.SwsuspMachine.{SwsuspMachine}
 use Rattle.swsusp_c.specs.declared.state.SwsuspResume.{SwsuspResume}
 
--- before the first call, for any machine and any disk
+-- a resume before its first call, for any machine and any disk
 pub record HasBegun (s : SwsuspResume) : Type 0 where
   pub resume : Resume
   pub is : s ≡ state_of resume
   pub at : (m : Machine) (v : DiskImage) (page : List ℕ) → IsAt m v resume page 0
   pub asked : (m : Machine) → HasAsked m resume []
 
--- one answer: as `Resume::answer` has it, for the machine that the caller describes
+-- one answer: as in `Resume::answer`, for the machine that the caller describes
 pub record Goes (m : Machine) (old : Resume) (given : List ℕ) (s : SwsuspResume) (page : List ℕ) : Type 0 where
   pub resume : Resume
   pub is : s ≡ state_of resume
@@ -33,7 +33,7 @@ abbrev pub Answers : SwsuspResume → SwsuspMachine → List FrameRange → List
 Answers old told memory given s page code =
     (r : Resume) → old ≡ state_of r → IsLive r → code ≡ 0 → Goes (machine_in told memory) r given s page
 
--- the state of a resume that goes on, a machine that can be, and a whole page
+-- the state of a resume that goes on, a possible machine, and a whole page
 pub record IsAnswerable (old : SwsuspResume) (told : SwsuspMachine) (memory : List FrameRange)
     (page : List ℕ) : Type 0 where
   pub resume : Resume
@@ -46,7 +46,7 @@ pub record IsAnswerable (old : SwsuspResume) (told : SwsuspMachine) (memory : Li
 abbrev pub Stays : {A : Type 0} → SwsuspResume → A → A → Type 0
 Stays s old new = (r : Resume) → s ≡ state_of r → IsEnd r.pending.call → new ≡ old
 
--- one failure: as `Resume::fail` has it
+-- one failure: as in `Resume::fail`
 pub record Ends (old : Resume) (s : SwsuspResume) : Type 0 where
   pub resume : Resume
   pub is : s ≡ state_of resume

@@ -31,7 +31,7 @@ pub(crate) fn of_kind(kind: u32, first: u64) -> SwsuspCall
     }
 }
 
-/// The numbers of a call.
+/// Returns the numbers of a call.
 pub(crate) fn call_code(call: Call) -> SwsuspCall
     ensures { result ≡ call_code call }
 {
@@ -115,7 +115,7 @@ fn left_code(left: Left) -> u64
     }
 }
 
-/// The call of these numbers, where it is one that a caller makes.
+/// Returns the call of these numbers, if it is one that the caller makes.
 pub(crate) fn live_call(call: &SwsuspCall) -> Option<Call>
     ensures { result ≡ live_call call.now }
 {

@@ -1,4 +1,4 @@
-//! What C calls: a check of an image.
+//! The functions that C calls to check an image.
 ghost use Rattle.std.specs.Prelude.{◌≡◌, ◌≢◌, length};
 ghost use Rattle.boot_check.specs.Found.{pending};
 ghost use Rattle.boot_check.specs.declared.check.Check.{Check};
@@ -14,9 +14,9 @@ use image_check::Outcome;
 use image_walk::words_for;
 use page_core::Page;
 
-/// Begins a check of the image of the area whose header is in block `header` of a disk: writes all of `state`.
+/// Begins a check of the image of the area whose header is in block `header` of a disk. Writes all of `state`.
 ///
-/// It returns `OK`; or `BAD_WORDS`, and then nothing was changed.
+/// Returns `OK`; or `BAD_WORDS`, and then nothing was changed.
 #[unsafe(no_mangle)]
 pub extern "C" fn swsusp_check_begin(
     state: &mut SwsuspCheck,
@@ -35,7 +35,7 @@ pub extern "C" fn swsusp_check_begin(
     OK
 }
 
-/// Gives the block that is to be read, or how the check ended, and changes nothing else.
+/// Writes to `call` the block to be read next, or how the check ended, and changes nothing else.
 #[unsafe(no_mangle)]
 pub extern "C" fn swsusp_check_next(state: &SwsuspCheck, call: &mut SwsuspCall) -> u32
     ensures code { result ≡ check_state_code state.now }
@@ -49,11 +49,11 @@ pub extern "C" fn swsusp_check_next(state: &SwsuspCheck, call: &mut SwsuspCall) 
     OK
 }
 
-/// Tells that the pending read was made, and writes what was found by it. `page` is the caller's buffer of 4096 bytes,
-/// and `words` what was lent to `swsusp_check_begin`. After the end nothing is found.
+/// Records that the pending read was made, and writes what was found by it. `page` is the caller's buffer of 4096
+/// bytes, and `words` are those lent to `swsusp_check_begin`. After the end nothing is found.
 ///
-/// It returns `OK`; or `BAD_PAGE`, `BAD_WORDS` or `BAD_STATE`, the first of them in this order, and then nothing was
-/// changed.
+/// Returns `OK`; or the first that applies of `BAD_PAGE`, `BAD_WORDS` and `BAD_STATE`, in this order, and then nothing
+/// was changed.
 #[unsafe(no_mangle)]
 pub extern "C" fn swsusp_check_answer(
     state: &mut SwsuspCheck,
@@ -87,9 +87,9 @@ pub extern "C" fn swsusp_check_answer(
     OK
 }
 
-/// Tells that the pending read failed, and writes what was found by that. After the end nothing is found.
+/// Records that the pending read failed, and writes what was found by that. After the end nothing is found.
 ///
-/// It returns `OK`; or `BAD_WORDS` or `BAD_STATE`, the first of them in this order, and then nothing was changed.
+/// Returns `OK`; or the first that applies of `BAD_WORDS` and `BAD_STATE`, in this order, and then nothing was changed.
 #[unsafe(no_mangle)]
 pub extern "C" fn swsusp_check_fail(
     state: &mut SwsuspCheck,
@@ -117,7 +117,7 @@ pub extern "C" fn swsusp_check_fail(
     OK
 }
 
-/// The numbers of a step.
+/// Returns the numbers of a step.
 fn step_numbers(step: Step) -> SwsuspCall
     ensures { result ≡ step_numbers step }
 {

@@ -1,6 +1,6 @@
 //! The numbers of include/swsusp.h that several functions share.
 
-/// What the functions return.
+/// The codes that the functions return.
 pub(crate) const OK: u32 = 0;
 
 pub(crate) const BAD_STATE: u32 = 1;

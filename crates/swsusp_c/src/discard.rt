@@ -1,4 +1,4 @@
-//! What C calls: the end of an image.
+//! The functions that C calls to give an image up.
 ghost use Rattle.std.specs.Prelude.{◌≡◌, ◌≢◌, length};
 ghost use Rattle.boot_discard.specs.declared.step.Step.TheVariants as step;
 ghost use Rattle.swsusp_c.specs.Codes.{discard_code, step_state_code};
@@ -9,14 +9,14 @@ use crate::codes::{BAD_PAGE, BAD_STATE, DONE, FAILED, OK, READ, REFUSED, SYNC, W
 use boot_discard::{Discard, Left, Step};
 use page_core::Page;
 
-/// The end of an image (`struct swsusp_discard`): the next call.
+/// The giving up of an image (`struct swsusp_discard`): the next call.
 #[repr(C)]
 #[derive(Drop)]
 pub struct SwsuspDiscard {
     pub call: SwsuspCall,
 }
 
-/// Begins to give the image up whose header is in block `header`: writes all of `discard`.
+/// Begins to give up the image whose header is in block `header`. Writes all of `discard`.
 #[unsafe(no_mangle)]
 pub extern "C" fn swsusp_discard_begin(discard: &mut SwsuspDiscard, header: u64)
     ensures { discard.new.call ≡ step_code (step.Read header) }
@@ -24,7 +24,7 @@ pub extern "C" fn swsusp_discard_begin(discard: &mut SwsuspDiscard, header: u64)
     discard.call = step_code(Step::Read { block: header });
 }
 
-/// Gives the call that is to be made, or how it ended.
+/// Writes to `call` the call to be made next, or how giving the image up ended.
 #[unsafe(no_mangle)]
 pub extern "C" fn swsusp_discard_next(discard: &SwsuspDiscard, call: &mut SwsuspCall)
     ensures { call.new ≡ discard.now.call }
@@ -32,9 +32,9 @@ pub extern "C" fn swsusp_discard_next(discard: &SwsuspDiscard, call: &mut Swsusp
     *call = discard.call;
 }
 
-/// Tells that the pending call was made. `page` is the caller's buffer of 4096 bytes. After the end nothing changes.
+/// Records that the pending call was made. `page` is the caller's buffer of 4096 bytes. After the end nothing changes.
 ///
-/// It returns `OK`; or `BAD_PAGE` or else `BAD_STATE`, and then nothing was changed.
+/// Returns `OK`; or `BAD_PAGE` or else `BAD_STATE`, and then nothing was changed.
 #[unsafe(no_mangle)]
 pub extern "C" fn swsusp_discard_answer(discard: &mut SwsuspDiscard, page: &mut [u8]) -> u32
     ensures code { result ≡ discard_code discard.old.call page.old }
@@ -58,9 +58,9 @@ pub extern "C" fn swsusp_discard_answer(discard: &mut SwsuspDiscard, page: &mut 
     OK
 }
 
-/// Tells that the pending call failed: it ends. After the end nothing changes.
+/// Records that the pending call failed, which ends the attempt. After the end nothing changes.
 ///
-/// It returns `OK`; or `BAD_STATE`, and then nothing was changed.
+/// Returns `OK`; or `BAD_STATE`, and then nothing was changed.
 #[unsafe(no_mangle)]
 pub extern "C" fn swsusp_discard_fail(discard: &mut SwsuspDiscard) -> u32
     ensures code { result ≡ step_state_code discard.old.call }
@@ -76,7 +76,7 @@ pub extern "C" fn swsusp_discard_fail(discard: &mut SwsuspDiscard) -> u32
     OK
 }
 
-/// The numbers of a step.
+/// Returns the numbers of a step.
 fn step_code(step: Step) -> SwsuspCall
     ensures { result ≡ step_code step }
 {
@@ -100,7 +100,7 @@ fn left_code(left: Left) -> u64
     }
 }
 
-/// The step of these numbers.
+/// Returns the step of these numbers.
 fn step_of(call: &SwsuspCall) -> Option<Step>
     ensures { result ≡ step_of call.now }
 {

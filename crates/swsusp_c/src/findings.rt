@@ -7,18 +7,18 @@ use image_check::{Finding, Place, Report};
 use image_walk::BlockFault;
 use lzo::Kind;
 
-/// How many findings are kept.
+/// The number of findings that are kept.
 pub(crate) const ROOM: usize = 1100;
 
-/// A thing that is wrong with an image (`struct swsusp_finding`). Numbers that a kind doesn't name are 0.
+/// Something wrong with an image (`struct swsusp_finding`). Numbers that a kind doesn't name are 0.
 #[repr(C)]
 #[derive(Clone, Copy)]
 pub struct SwsuspFinding {
     /// `SWSUSP_HEADER_UNREAD` to `SWSUSP_CHECKSUM`.
     pub kind: u32,
-    /// Why an area can't be used, or a block that is named can't be a page of the image.
+    /// Why an area can't be used, or why a named block can't be a page of the image.
     pub fault: u32,
-    /// The number of a map, from 1, and of an entry of it, from 0.
+    /// The number of a map, from 1, and of its entry, from 0.
     pub map: u32,
     pub entry: u32,
     /// The block of the entry's map.
@@ -33,9 +33,9 @@ pub struct SwsuspFinding {
 #[repr(C)]
 #[derive(Drop)]
 pub struct SwsuspFindings {
-    /// How many there were.
+    /// The number of findings.
     pub count: u64,
-    /// The first of them.
+    /// The first findings.
     pub found: [SwsuspFinding; ROOM],
 }
 
@@ -89,7 +89,7 @@ fn at_place(kind: u32, place: Place, fault: u32, first: u64, second: u64) -> Sws
     }
 }
 
-/// The place of a map.
+/// Returns the place of a map.
 fn no_entry(map: u32) -> Place
     ensures { result ≡ no_entry map }
 {
@@ -100,7 +100,7 @@ fn no_entry(map: u32) -> Place
     }
 }
 
-/// The numbers of a finding.
+/// Returns the numbers of a finding.
 fn finding_code(finding: Finding) -> SwsuspFinding
     ensures { result ≡ finding_code finding }
 {
@@ -158,7 +158,7 @@ fn finding_code(finding: Finding) -> SwsuspFinding
     }
 }
 
-/// A block's fault, and the block.
+/// Returns the number of a block's fault, and the block.
 fn block_numbers(why: BlockFault) -> (u32, u64)
     ensures { result ≡ block_numbers why }
 {

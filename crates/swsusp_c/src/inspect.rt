@@ -1,4 +1,4 @@
-//! What C calls: what the header block of an area says.
+//! The function that C calls to read the header block of an area.
 ghost use Rattle.std.specs.Prelude.{◌≡◌, ◌≢◌, ℕ};
 ghost use Rattle.sig_header.specs.AreaKind.{area_kind};
 ghost use Rattle.swsusp_c.specs.Codes.{page_code};
@@ -12,24 +12,24 @@ use sig_header::{AreaFault, AreaKind};
 #[repr(C)]
 #[derive(Clone, Copy, Debug, PartialEq, Eq)]
 pub struct SwsuspHeader {
-    /// The block of the first map, of an image.
+    /// The block of an image's first map.
     pub first_map: u64,
     /// `SWSUSP_IMAGE` to `SWSUSP_BAD_AREA`.
     pub kind: u32,
     /// The last slot.
     pub last_page: u32,
-    /// How many bad pages it names.
+    /// The number of bad pages that it names.
     pub bad_pages: u32,
     pub flags: u32,
     pub hardware_signature: u32,
-    /// Why a version 1 area can't be used, and the number that says it.
+    /// Why a version 1 area can't be used, and the number at fault.
     pub fault: u32,
     pub number: u32,
 }
 
-/// Says what the header block of an area is, which the caller read into `page`.
+/// Writes to `header` what the header block of an area says, which the caller read into `page`.
 ///
-/// It returns `OK`; or `BAD_PAGE` where the buffer hasn't 4096 bytes, and then nothing was changed.
+/// Returns `OK`; or `BAD_PAGE` if the buffer's length isn't 4096, and then nothing was changed.
 #[unsafe(no_mangle)]
 pub extern "C" fn swsusp_inspect(page: &[u8], header: &mut SwsuspHeader) -> u32
     ensures code { result ≡ page_code page.now }
@@ -84,7 +84,7 @@ fn facts_of(kind: AreaKind) -> SwsuspHeader
     facts
 }
 
-/// A fault's number, and the number that it names.
+/// Returns a fault's number, and the number at fault.
 pub(crate) fn fault_of(why: AreaFault) -> (u32, u32)
     ensures { result ≡ fault_of why }
 {

@@ -9,7 +9,7 @@ use image_check::{Counts, Outcome, Progress};
 use image_walk::{Limits, Walk};
 use page_core::{Format, Page};
 
-/// A check (`struct swsusp_check`): the fields of `Check`, of which a caller in C reads none.
+/// A check (`struct swsusp_check`): the fields of `Check`, none of which a caller in C reads.
 #[repr(C)]
 #[derive(Drop)]
 pub struct SwsuspCheck {
@@ -35,7 +35,7 @@ pub struct SwsuspCheck {
     pub map: [u8; 4096],
 }
 
-/// The numbers and the page of a check.
+/// Returns the numbers and the page of a check.
 pub(crate) fn check_code(check: &Check) -> SwsuspCheck
     ensures { result ≡ check_code check.now }
 {
@@ -70,7 +70,7 @@ pub(crate) fn check_code(check: &Check) -> SwsuspCheck
     }
 }
 
-/// The check of these numbers, where its stage is one.
+/// Returns the check of these numbers, if its stage is a valid one.
 pub(crate) fn check_of(state: &SwsuspCheck) -> Option<Check>
     ensures { result ≡ check_by state.now }
 {
@@ -80,7 +80,7 @@ pub(crate) fn check_of(state: &SwsuspCheck) -> Option<Check>
     })
 }
 
-/// What a check keeps of the names of an image.
+/// Returns what a check keeps of the names of an image.
 fn names_of(state: &SwsuspCheck) -> Names
     ensures { result ≡ names_by state.now }
 {

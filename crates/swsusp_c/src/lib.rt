@@ -1,6 +1,6 @@
-//! A resume, the end of an image, a check of it and the facts of its header for programs in C, over `boot_resume`,
-//! `boot_discard`, `boot_check` and `sig_header`: numbers, byte pointers and what the caller lends. include/swsusp.h
-//! declares what is exported. Each argument is tested here.
+//! Resuming an image, giving it up, checking it and reading its header, for programs in C, over `boot_resume`,
+//! `boot_discard`, `boot_check` and `sig_header`: with numbers, byte pointers and what the caller lends.
+//! include/swsusp.h declares what is exported. Each argument is tested here.
 #![tactic(auto)]
 
 mod calls;
@@ -32,7 +32,7 @@ pub use resume::{
 pub use state::SwsuspResume;
 use std::mem::size_of;
 
-// The sizes that include/swsusp.h tells a compiler of C. Fields and their order are compared by tools/check_header.py.
+// The sizes that include/swsusp.h gives a C compiler. tools/check_header.py compares the fields and their order.
 const _: () = prove!(size_of::<SwsuspCall>() == 24);
 
 const _: () = prove!(size_of::<FrameRange>() == 16);

@@ -23,14 +23,14 @@ pub struct SwsuspMachine {
     pub architecture: [u8; 390],
 }
 
-/// What the image's identity is compared with.
+/// The identities that an image's may be compared with.
 const ANY_KERNEL: u32 = 0;
 
 const SAME_KERNEL: u32 = 1;
 
 const SAME_ARCHITECTURE: u32 = 2;
 
-/// The names and the version code, as an image has them.
+/// Returns the names and the version code, as an image has them.
 pub(crate) fn kernel_of(told: &SwsuspMachine) -> Ident
     ensures version { result.version_code ≡ told.now.version_code }
     ensures names { result.names ≡ told.now.names }
@@ -41,7 +41,7 @@ pub(crate) fn kernel_of(told: &SwsuspMachine) -> Ident
     }
 }
 
-/// The machine that was told. `kernel` is what `kernel_of` gives.
+/// Returns the machine that the caller describes. `kernel` is what `kernel_of` returns.
 pub(crate) fn machine_of<'a>(
     told: &'a SwsuspMachine,
     memory: &'a [FrameRange],
@@ -69,7 +69,7 @@ pub(crate) fn machine_of<'a>(
     }
 }
 
-/// What the image's identity is compared with.
+/// Returns what the image's identity is compared with.
 fn identity_of<'a>(told: &'a SwsuspMachine, kernel: &'a Ident) -> Result<Option<Identity<'a>>, u32>
     requires version { kernel.now.version_code ≡ told.now.version_code }
     requires names { kernel.now.names ≡ told.now.names }

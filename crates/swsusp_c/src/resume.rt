@@ -1,4 +1,4 @@
-//! What C calls: a resume.
+//! The functions that C calls to resume an image.
 ghost use Rattle.std.specs.Prelude.{◌≡◌, ◌≢◌, List, ℕ, length};
 ghost use Rattle.swsusp_c.specs.Calls.{is_over};
 ghost use Rattle.swsusp_c.specs.Codes.{answer_code, state_code};
@@ -11,7 +11,7 @@ use crate::state::{SwsuspResume, resume_of, state_of};
 use boot_resume::{FrameRange, Resume};
 use page_core::Page;
 
-/// Begins a resume: writes all of `state`. The first call is a sync.
+/// Begins a resume. Writes all of `state`. The first call is a sync.
 #[unsafe(no_mangle)]
 pub extern "C" fn swsusp_resume_begin(state: &mut SwsuspResume)
     ensures { HasBegun state.new }
@@ -19,7 +19,7 @@ pub extern "C" fn swsusp_resume_begin(state: &mut SwsuspResume)
     *state = state_of(&Resume::new());
 }
 
-/// Gives the call that is to be made, or how the resume ended, and changes nothing else.
+/// Writes to `call` the call to be made next, or how the resume ended, and changes nothing else.
 #[unsafe(no_mangle)]
 pub extern "C" fn swsusp_resume_next(state: &SwsuspResume, call: &mut SwsuspCall)
     ensures { call.new ≡ state.now.call }
@@ -27,11 +27,11 @@ pub extern "C" fn swsusp_resume_next(state: &SwsuspResume, call: &mut SwsuspCall
     *call = state.call;
 }
 
-/// Tells that the pending call was made. `page` is the caller's buffer of 4096 bytes, and `memory` the ranges of page
+/// Records that the pending call was made. `page` is the caller's buffer of 4096 bytes, and `memory` the ranges of page
 /// frames that are memory. After the end nothing changes.
 ///
-/// It returns `OK`; or `BAD_PAGE`, `BAD_IDENTITY`, `BAD_MEMORY`, `BAD_PRESENT`, `BAD_HEADER` or `BAD_STATE`, the first
-/// of them in this order, and then nothing was changed.
+/// Returns `OK`; or the first that applies of `BAD_PAGE`, `BAD_IDENTITY`, `BAD_MEMORY`, `BAD_PRESENT`, `BAD_HEADER` and
+/// `BAD_STATE`, in this order, and then nothing was changed.
 #[unsafe(no_mangle)]
 pub extern "C" fn swsusp_resume_answer(
     state: &mut SwsuspResume,
@@ -70,9 +70,9 @@ pub extern "C" fn swsusp_resume_answer(
     OK
 }
 
-/// Tells that the pending call failed: the resume ends. After the end nothing changes.
+/// Records that the pending call failed, which ends the resume. After the end nothing changes.
 ///
-/// It returns `OK`; or `BAD_STATE`, and then nothing was changed.
+/// Returns `OK`; or `BAD_STATE`, and then nothing was changed.
 #[unsafe(no_mangle)]
 pub extern "C" fn swsusp_resume_fail(state: &mut SwsuspResume) -> u32
     ensures code { result ≡ state_code state.old }
@@ -91,7 +91,7 @@ pub extern "C" fn swsusp_resume_fail(state: &mut SwsuspResume) -> u32
     OK
 }
 
-/// Whether a resume ended: it is done, or was refused, or a call failed.
+/// Returns whether a resume ended: it is done, or was refused, or a call failed.
 fn is_over(call: &SwsuspCall) -> bool
     ensures { result ≡ is_over call.now }
 {

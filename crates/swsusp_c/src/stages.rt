@@ -4,7 +4,7 @@ ghost use Rattle.swsusp_c.specs.Stages.{stage_code, stage_of};
 
 use boot_resume::Stage;
 
-/// The number of a stage.
+/// Returns the number of a stage.
 pub(crate) fn stage_code(stage: Stage) -> u32
     ensures { result ≡ stage_code stage }
 {
@@ -24,7 +24,7 @@ pub(crate) fn stage_code(stage: Stage) -> u32
     }
 }
 
-/// The stage of a number.
+/// Returns the stage of a number.
 pub(crate) fn stage_of(code: u32) -> Option<Stage>
     ensures { result ≡ stage_of code }
 {

@@ -10,12 +10,12 @@ use boot_resume::{Move, Reading, Resume};
 use page_core::Page;
 use sig_header::Mark;
 
-/// A resume (`struct swsusp_resume`): the fields of `Resume`, of which a caller in C reads none.
+/// A resume (`struct swsusp_resume`): the fields of `Resume`, none of which a caller in C reads.
 #[repr(C)]
 #[derive(Drop)]
 pub struct SwsuspResume {
     pub stage: u32,
-    /// Whether a page frame was listed or handed out: 1, or 0 where none was.
+    /// Whether a page frame was listed or handed out: 1, or 0 if none was.
     pub has_last: u32,
     pub call: SwsuspCall,
     pub mark_last: u32,
@@ -35,7 +35,7 @@ pub struct SwsuspResume {
     pub numbers: [u8; 4096],
 }
 
-/// The numbers and pages of a resume.
+/// Returns the numbers and pages of a resume.
 pub(crate) fn state_of(resume: &Resume) -> SwsuspResume
     ensures { result ≡ state_of resume.now }
 {
@@ -86,7 +86,7 @@ pub(crate) fn last_by(has_last: u32, last: u64) -> Option<u64>
     if has_last == 0 { None } else { Some(last) }
 }
 
-/// The resume whose next call isn't its end, where the numbers are those of one.
+/// Returns the resume of these numbers, if they are those of one that hasn't ended.
 pub(crate) fn resume_of(state: &SwsuspResume) -> Option<Resume>
     ensures resume { (r : Resume) → IsLive r → state.now ≡ state_of r → result ≡ Some r }
     ensures state { is_some result ≡ is_state state.now }
@@ -100,7 +100,7 @@ pub(crate) fn resume_of(state: &SwsuspResume) -> Option<Resume>
     })
 }
 
-/// What was read so far, where the counts can be those of a resume.
+/// Returns what was read so far, if the counts can be those of a resume.
 fn reading_of(state: &SwsuspResume) -> Option<Reading>
     ensures reading { (r : Resume) → state.now ≡ state_of r → result ≡ Some r.reading }
     ensures counts { is_some result ≡ has_counts state.now }

@@ -14,8 +14,8 @@ file_of (drill number) = None
 file_of export = None
 file_of (import swap) = Some swap
 
--- The file that the words name; or so many blocks in memory: 16,384 for a replay and a drill, one for an export and
--- where the words don't parse.
+-- The file that the words name; or a disk in memory: 16,384 blocks for a replay and a drill, one for an export and for
+-- words that don't parse.
 abbrev pub IsChoice : List (List ℕ) → Choice → Type 0
 IsChoice words (File path) =
     (asked : Asked) × (command_of words ≡ Some asked) × (file_of asked ≡ Some (string_bytes path))
@@ -24,7 +24,7 @@ IsChoice words (Memory blocks) =
     ⊎ ((command_of words ≡ Some replay) × (blocks ≡ 16384))
     ⊎ ((number : ℕ) × (command_of words ≡ Some (drill number)) × (blocks ≡ 16384))
 
--- this file
+-- the choice is this file
 abbrev pub IsFile : List ℕ → Choice → Type 0
 IsFile swap (File path) = string_bytes path ≡ swap
 IsFile swap (Memory blocks) = ⊥

@@ -1,4 +1,4 @@
--- How `drill` may end: the machine that is made from a number plays, and one line sums its replies up.
+-- How `drill` may end: it plays the script that a number gives, and one line sums up the replies.
 use Rattle.std.specs.Prelude.{ℕ, List, [], All}
 use Rattle.definitions.specs.Disk as disk
 use Rattle.plain_machine.specs.declared.reply.Reply.{Reply}
@@ -16,8 +16,8 @@ use Rattle.command_kit.specs.declared.status.Status.TheVariants.{Done}
 abbrev pub summary_told : ℕ → List Reply → RunResult
 summary_told number replies = record { status = Done; out = summary number (tally_of replies); note = [] }
 
--- All events were played, and the line is that of a run of the plain machine, as in a replay. None of its replies tells
--- of a call of the disk that failed at its own event, where the disk's count didn't rise.
+-- All events were played, and the line is that of a run of the plain machine, as in a replay. A reply reports a failed
+-- call of the disk at its own event only if the disk's count of faults rose.
 pub record IsSummed (number : ℕ) (x x' : View) (status : Status) : Type 0 where
   pub roomy : LieBelow drill_hardware x.disk.blocks
   pub replies : List Reply
@@ -25,7 +25,7 @@ pub record IsSummed (number : ℕ) (x x' : View) (status : Status) : Type 0 wher
   pub faultless : (disk.HasRisen x.disk.faults x'.disk.faults → ⊥) → All (λ r. TellsNewFault r → ⊥) replies
   pub told : Tells (summary_told number replies) status x x'
 
--- One of these, by what the outside told before a drill and after it.
+-- How a drill may end, by the view of the outside before and after it.
 pub data IsDrilled (number : ℕ) (x x' : View) (status : Status) : Type 0 where
   out_of_memory : IsOutOfMemory x x' status → IsDrilled number x x' status
   too_small : IsTooSmall x x' status (drill_script number) → IsDrilled number x x' status

@@ -21,7 +21,7 @@ use Rattle.command_kit.specs.View.{View}
 use Rattle.command_kit.specs.declared.status.Status.{Status}
 use Rattle.command_kit.specs.declared.status.Status.TheVariants.{Done, Refused, Input, Device}
 
--- The input is no dump: its first fault, at a byte or, in the tables, at a page frame.
+-- An input that is no dump: its first fault is at a byte or, in the tables, at a page frame.
 
 abbrev pub kind_text : DumpKind → List ℕ
 kind_text kind.Short = codes "Short byte "
@@ -40,20 +40,20 @@ dump_note fault = line (codes "dump " ++ kind_text fault.kind ++ decimal fault.a
 abbrev pub dump_told : DumpFault → RunResult
 dump_told fault = record { status = Input; out = []; note = dump_note fault }
 
--- that is told, what was left wasn't read much further than to the fault, and the disk isn't called
+-- the fault is reported, the input is read no further than shows the fault, and the disk isn't called
 pub record IsNoDump (x x' : View) (status : Status) (fault : DumpFault) : Type 0 where
   pub says : (bytes : List ℕ) → x.left ≡ Some bytes → dump_of bytes ≡ Err fault
   pub read : (bytes : List ℕ) → x.left ≡ Some bytes → IsReadWithin bytes fault x'.left
   pub told : Tells (dump_told fault) status x x'
   pub untouched : x'.disk ≡ x.disk
 
--- what was left is this dump, and is read to its end
+-- what was left of the input is this dump, and is read to its end
 pub record IsDump (x x' : View) (dump : DumpValue) : Type 0 where
   pub says : (bytes : List ℕ) → x.left ≡ Some bytes → dump_of bytes ≡ Ok dump
   pub over : IsUsedUp x'.left
 
--- What is told at the end: the line of the last reply, on out after a hibernation that ended well, else on note. The
--- status says whether it was refused, or a call of the disk failed.
+-- What is printed at the end: the line of the last reply, on out after a hibernation that succeeded, else on note. The
+-- status says whether the machine refused or a call of the disk failed.
 
 abbrev pub is_hibernated : Reply → Bool
 is_hibernated (reply.Hibernated n) = true
@@ -67,8 +67,8 @@ hibernation_told ended =
     if is_hibernated ended.reply then record { status = Done; out = line_of ended.reply; note = [] }
     else stopped_told ended
 
--- The machine of the dump has hibernated, or has answered why it doesn't; cached page frames were dropped before where
--- a size was asked for. What it did over the disk is a run that ended so.
+-- The dump's machine has hibernated, or has replied why it doesn't. Cached page frames were dropped first if a size was
+-- asked for. What the machine did over the disk is a run with this ending.
 pub record HasAnswered {X : Type 0} (D : Ghosts X) (before after : X) (f : Format) (size : Option ℕ) (x x' : View)
     (status : Status) (dump : DumpValue) (ended : Ended) : Type 0 where
   pub dump_is : IsDump x x' dump
@@ -78,7 +78,7 @@ pub record HasAnswered {X : Type 0} (D : Ghosts X) (before after : X) (f : Forma
   pub ran : RanAs (IsHibernation f size ended) D dump.hw dump.memory shown before after
   pub orders : x'.disk.orders ≡ x.disk.orders
 
--- One of these, by what the outside told before a hibernation and after it. Where no machine is made the disk is as it
+-- How a hibernation may end, by the view of the outside before and after it. If no machine is made, the disk is as it
 -- was.
 pub data Hibernates {X : Type 0} (D : Ghosts X) (before after : X) (f : Format) (size : Option ℕ) (x x' : View)
     (status : Status) : Type 0 where

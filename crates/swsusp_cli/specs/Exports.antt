@@ -12,7 +12,7 @@ use Rattle.command_kit.specs.View.{View}
 use Rattle.command_kit.specs.declared.status.Status.{Status}
 use Rattle.command_kit.specs.declared.status.Status.TheVariants.{Done, Refused}
 
--- the lowest slot that a task has
+-- the refusal because tasks have slots, of which this is the lowest
 abbrev pub slots_told : ℕ → RunResult
 slots_told slot = record { status = Refused; out = []; note = line (codes "slots in use " ++ decimal slot) }
 
@@ -20,21 +20,21 @@ slots_told slot = record { status = Refused; out = []; note = line (codes "slots
 abbrev pub stream_told : Hardware → Memory → RunResult
 stream_told h m = record { status = Done; out = bytes_of (plain_image h m); note = [] }
 
--- a task has a slot in the dump, and the lowest one is told
+-- a task has a slot in the dump; the lowest such slot is reported
 pub record IsInUse (x x' : View) (status : Status) (dump : DumpValue) (slot : ℕ) : Type 0 where
   pub dump_is : IsDump x x' dump
   pub first : IsFirstTaskSlot dump.hw dump.memory slot
   pub told : Tells (slots_told slot) status x x'
   pub untouched : x'.disk ≡ x.disk
 
--- no task has one, and the image of the dump's memory is told
+-- no task has a slot, and the image of the dump's memory is written
 pub record IsExported (x x' : View) (status : Status) (dump : DumpValue) : Type 0 where
   pub dump_is : IsDump x x' dump
   pub none : HasNoTaskSlot dump.hw dump.memory
   pub told : Tells (stream_told dump.hw dump.memory) status x x'
   pub untouched : x'.disk ≡ x.disk
 
--- One of these, by what the outside told before an export and after it.
+-- How an export may end, by the view of the outside before and after it.
 pub data Exports (x x' : View) (status : Status) : Type 0 where
   no_dump : (fault : DumpFault) → IsNoDump x x' status fault → Exports x x' status
   out_of_memory : IsOutOfMemory x x' status → Exports x x' status

@@ -21,13 +21,13 @@ use Rattle.swsusp_cli.specs.Imports.{IsCalledAtMost}
 use Rattle.swsusp_cli.specs.declared.importing.ImportStop.{ImportStop}
 use Rattle.swsusp_cli.specs.declared.importing.ImportStop.TheVariants.{Source, Session}
 
--- The disk reads as the whole pages of these bytes were written, the first of them when it had one image, and the
--- blocks of no free slot are as they were then.
+-- The whole pages of these bytes read as the import lays them out. The disk had one image when the first was written,
+-- and blocks that belong to no free slot are as they were then.
 pub record HoldsFed (extents : List (ℕ × ℕ × ℕ)) (free bs : List ℕ) (old new : Content) : Type 0 where
   pub outside : WritesAtRest extents free 0 (length bs) old new
   pub written : AreWritten extents free bs (as_it_reads new)
 
--- A session has taken just these bytes, which the source handed out.
+-- A session has taken exactly these bytes, which the source handed out.
 pub record HasFed (free bs : List ℕ) (s s' : StreamIn) (left left' : Option (List ℕ)) (d d' : DiskView) : Type 0 where
   pub fed : IsFed free bs s'
   pub handed : HandsOut (length bs) bs left left'
@@ -36,7 +36,7 @@ pub record HasFed (free bs : List ℕ) (s s' : StreamIn) (left left' : Option (L
   pub map : s'.map ≡ s.map
   pub blocks : s'.blocks ≡ s.blocks
 
--- why it may stop with the last of these bytes
+-- why a session may stop with the last of these bytes
 abbrev pub IsStopFor : List ℕ → List ℕ → InStop → Type 0
 IsStopFor free bs stop.NoMemory = ⊥
 IsStopFor free bs (stop.NoSwap why) = ⊥
@@ -46,7 +46,7 @@ IsStopFor free bs (stop.ReadFault left) = ⊥
 IsStopFor free bs (stop.WriteFault left) = left ≡ Same
 IsStopFor free bs (stop.SyncFault left) = left ≡ Same
 
--- It has stopped with the last of these bytes.
+-- The session stopped with the last of these bytes.
 pub record HasStopped (free bs : List ℕ) (why : InStop) (s : StreamIn) (left left' : Option (List ℕ))
     (d d' : DiskView) : Type 0 where
   pub why_is : IsStopFor free bs why
@@ -56,7 +56,7 @@ pub record HasStopped (free bs : List ℕ) (why : InStop) (s : StreamIn) (left l
   pub called : IsCalledAtMost (3 * (length bs / 4096)) d d'
   pub risen : IsDiskStop why → HasRisen d.faults d'.faults
 
--- the disk failed, or the source
+-- whether the disk failed; whether the source failed
 abbrev pub IsOfDisk : ImportStop → Type 0
 IsOfDisk Source = ⊥
 IsOfDisk (Session why) = IsDiskStop why
@@ -65,20 +65,20 @@ abbrev pub IsOfSource : ImportStop → Type 0
 IsOfSource Source = ⊤
 IsOfSource (Session why) = ⊥
 
--- The input came to its end; or it failed; or the session stopped.
+-- The input came to its end, or the source failed, or the session stopped.
 abbrev pub Feeds : List ℕ → StreamIn → StreamIn → Option (List ℕ) → Option (List ℕ) → DiskView → DiskView →
     Result (Unit {0}) ImportStop → Type 0
 Feeds free s s' left left' d d' (Ok u) = (bs : List ℕ) × HasFed free bs s s' left left' d d' × IsUsedUp left'
 Feeds free s s' left left' d d' (Err Source) = (bs : List ℕ) × HasFed free bs s s' left left' d d'
 Feeds free s s' left left' d d' (Err (Session why)) = (bs : List ℕ) × HasStopped free bs why s left left' d d'
 
--- Each header block that a crash since a moment before may leave it might have left before, and the clock hasn't
--- fallen.
+-- The clock hasn't gone back, and a crash since an earlier moment leaves no header block that it might not have left
+-- before.
 pub record KeepsHeaders (before now : ℕ) (past since : ℕ → DiskImage → Type 0) : Type 0 where
   pub later : before ≤ now
   pub adds_none : AddsNoHeader before past since
 
--- The input came to its end, and a disk that was ready for a stream of this area is ready for what was read.
+-- The input came to its end, and a disk that was ready for a stream in this area is ready for the bytes read.
 pub record TakesToEnd (area : Area) (free : List ℕ) (s' : StreamIn) (left left' : Option (List ℕ))
     (old new : Option Content) : Type 0 where
   pub bs : List ℕ

@@ -1,4 +1,4 @@
--- How `import` may end: the area is opened, the input's bytes go into it as they are read, and it is marked.
+-- How `import` may end: it opens the area, writes the input's bytes into it as they are read, and marks it.
 use Rattle.std.specs.Prelude.{◌≡◌, ◌≤◌, ◌<◌, ◌⊎◌, ℕ, ◌+◌, ◌*◌, ◌/◌, List, [], ◌∷◌, ◌++◌, length, codes, decimal, Option}
 use Rattle.std.specs.Prelude.{Some, None, Result, Ok, Err, IfSome, Contains}
 use Rattle.definitions.specs.Disk.{Changes, Content, HasRisen, DiskImage, IsImage, as_it_reads, block, sector, settled}
@@ -36,14 +36,14 @@ use Rattle.command_kit.specs.declared.status.Status.TheVariants.{Done, Refused, 
 
 -- How often an import calls the disk.
 
--- The disk was called so often at most, its count of failures didn't fall, and it got no orders.
+-- The disk was called at most `most` times, its count of failures didn't fall, and it got no orders.
 pub record IsCalledAtMost (most : ℕ) (d d' : DiskView) : Type 0 where
   pub calls : d'.calls ≤ d.calls + most
   pub faults : d.faults ≤ d'.faults
   pub orders : d'.orders ≡ d.orders
   pub blocks : d'.blocks ≡ d.blocks
 
--- What is told.
+-- What is printed.
 
 abbrev pub kind_text : Kind → List ℕ
 kind_text fault.Counts = codes "Counts byte "
@@ -62,7 +62,7 @@ stream_told fault = record { status = Input; out = []; note = stream_note fault 
 abbrev pub imported_told : ℕ → RunResult
 imported_told n = record { status = Done; out = line (codes "imported " ++ decimal n); note = [] }
 
--- why an image doesn't come in: the reply that says so, or the stream's fault
+-- why an image isn't imported: the reply that says so, or the stream's fault
 abbrev pub stop_told : InStop → RunResult
 stop_told stop.NoMemory = memory_told
 stop_told (stop.NoSwap why) = record { status = Refused; out = []; note = line_of (reply.NoSwap why) }
@@ -72,7 +72,7 @@ stop_told (stop.ReadFault left) = record { status = Device; out = []; note = lin
 stop_told (stop.WriteFault left) = record { status = Device; out = []; note = line_of (reply.WriteFault left) }
 stop_told (stop.SyncFault left) = record { status = Device; out = []; note = line_of (reply.SyncFault left) }
 
--- The disk, by the area at its first blocks: slot s lies on block s.
+-- The disk, with its area at the first blocks: slot s lies on block s.
 
 abbrev pub whole_map : Area → List (ℕ × ℕ × ℕ)
 whole_map area = (0, area.last + 1, 0) ∷ []
@@ -81,27 +81,26 @@ whole_map area = (0, area.last + 1, 0) ∷ []
 abbrev pub IsUsable : Area → ℕ → Type 0
 IsUsable area s = (s ≤ area.last) × (Contains (bad_slots_of area) s → ⊥)
 
--- each sector of block 0, and of each other block that no slot of the area lies on that it can give, is as before,
--- whatever a crash may leave of it
+-- Each sector of a block on which no usable slot of the area lies is as before, whatever a crash may leave of it. Block
+-- 0 is such a block.
 pub record KeepsUnusable (area : Area) (old new : Content) : Type 0 where
   pub size : length new ≡ length old
   pub sectors : (b j : ℕ) → j < 8 → (IsUsable area b → ⊥) → sector new (8 * b + j) ≡ sector old (8 * b + j)
 
--- The disk is as before. Or it had one image before the first block was written, the one that it read as, and each of
+-- The disk is as before. Or it had one image, the one that it read as, before the first block was written, and each of
 -- those sectors is as it was then: so in every image block 0 is what was read of it.
 abbrev pub LeavesUnusable : Area → Content → Content → Type 0
 LeavesUnusable area old new = (new ≡ old) ⊎ KeepsUnusable area (settled (as_it_reads old)) new
 
--- and the whole pages of these bytes, with the maps that they fill, read as they were written, to the lowest of the
--- free slots
+-- and the whole pages of these bytes, with the maps that they fill, read as they were written, to the lowest free slots
 pub record HasWritten (area : Area) (free bs : List ℕ) (old new : Content) : Type 0 where
   pub leaves : LeavesUnusable area old new
   pub written : AreWritten (whole_map area) free bs (as_it_reads new)
 
--- The disk has one image. Block 0 is that of before, marked with the flags 2 and the block of the first map, which is
--- the lowest free slot's; the pages of the stream and the maps read as they are laid, so that for each machine whose
--- swap area lies so the chain from there is the stream, byte for byte, and the disk holds the image that it is of; and
--- each block of no slot that the area can give reads as before.
+-- The disk has one image. Block 0 is as before, but marked with the flags 2 and the block of the first map, which lies
+-- on the lowest free slot. The pages of the stream and the maps read as they are laid. So for each machine whose swap
+-- area lies there, the chain is the stream, byte for byte, and the disk holds the image that the stream is of. Each
+-- other block on which no usable slot of the area lies reads as before.
 pub record Stores (area : Area) (free bs : List ℕ) (old new : Content) : Type 0 where
   pub size : length new ≡ length old
   pub one_image : new ≡ settled (as_it_reads new)
@@ -111,17 +110,17 @@ pub record Stores (area : Area) (free bs : List ℕ) (old new : Content) : Type 
   pub comes_in : (v : DiskImage) → IsImage new v → HasComeIn area bs v
   pub others : (b : ℕ) → 0 < b → (IsUsable area b → ⊥) → block (as_it_reads new) b ≡ block (as_it_reads old) b
 
--- All was written, and then a call failed by which the area was to be marked; what it says that is left of the image.
+-- Everything was written, and then a call that marks the area failed; what the stop says is left of the image.
 abbrev pub MarksNot : InStop → Area → List ℕ → List ℕ → Content → Content → Type 0
 MarksNot why area free bs old new = (mid : Content) × HasWritten area free bs old mid × LeavesAt why mid new
 
--- The area at the disk's first blocks, and the slots that it can give, ascending.
+-- The area at the disk's first blocks, and its usable slots, ascending.
 pub record IsArea (d : DiskView) (area : Area) (free : List ℕ) : Type 0 where
   pub kind_is : IfSome d.content (λ held. area_kind (first_block d.blocks (as_it_reads held)) ≡ kind.Swap area)
   pub room : IfSome d.content (λ held. open_fault d.blocks (kind.Swap area) ≡ None)
   pub slots : AreUsable area free
 
--- The bytes that were read, one after the longest stream at most.
+-- The bytes that were read: at most one more than the longest stream has.
 pub record AreRead (bs : List ℕ) (left left' : Option (List ℕ)) : Type 0 where
   pub handed : HandsOut (length bs) bs left left'
   pub few : length bs ≤ most_bytes + 1
@@ -130,7 +129,7 @@ pub record AreRead (bs : List ℕ) (left left' : Option (List ℕ)) : Type 0 whe
 abbrev pub IsStream : List ℕ → Type 0
 IsStream bs = (first_fault bs ≡ None) × (short_fault bs ≡ None)
 
--- the first fault of the bytes so far, or they are all that there is and no whole stream
+-- the first fault of the bytes so far; or the input ends with them, and they are no whole stream
 abbrev pub HasStreamFault : List ℕ → StreamFault → Option (List ℕ) → Type 0
 HasStreamFault bs fault left' =
     (first_fault bs ≡ Some fault) ⊎ ((first_fault bs ≡ None) × (short_fault bs ≡ Some fault) × IsUsedUp left')
@@ -150,7 +149,7 @@ pub record IsImported (n : ℕ) (area : Area) (free bs : List ℕ) (left left' :
   pub content : Changes (Stores area free bs) d.content d'.content
   pub called : IsCalledAtMost (7 + 3 * (length bs / 4096)) d d'
 
--- memory was refused before the disk was called and a byte was read
+-- memory was refused before the disk was called or a byte was read
 abbrev pub IsUntouched : Option (List ℕ) → Option (List ℕ) → DiskView → DiskView → Type 0
 IsUntouched left left' d d' = (left' ≡ left) × (d' ≡ d)
 
@@ -162,7 +161,7 @@ pub record HasNoArea (why : NoSwap) (left left' : Option (List ℕ)) (d d' : Dis
   pub content : d'.content ≡ d.content
   pub called : IsCalledAtMost 1 d d'
 
--- or it no longer is when it is to be marked, which comes of no disk that tells its content
+-- or the header is no longer the area's when it is to be marked, which can't be over a disk that tells its content
 pub record HasNoMore (left left' : Option (List ℕ)) (d d' : DiskView) : Type 0 where
   pub bs : List ℕ
   pub bytes : AreRead bs left left'
@@ -180,7 +179,7 @@ pub record HasTooFewSlots (told need : ℕ) (area : Area) (free bs : List ℕ) (
   pub content : Changes (LeavesUnusable area) d.content d'.content
   pub called : IsCalledAtMost (1 + 3 * (length bs / 4096)) d d'
 
--- the input is no stream, and the slots don't stand in its way
+-- the input is no stream, and the free slots suffice for what was read
 pub record IsNoStream (fault : StreamFault) (area : Area) (free bs : List ℕ) (left left' : Option (List ℕ))
     (d d' : DiskView) : Type 0 where
   pub area_is : IsArea d area free
@@ -190,7 +189,7 @@ pub record IsNoStream (fault : StreamFault) (area : Area) (free bs : List ℕ) (
   pub content : Changes (LeavesUnusable area) d.content d'.content
   pub called : IsCalledAtMost (1 + 3 * (length bs / 4096)) d d'
 
--- the source failed after these bytes, in which no fault is
+-- the source failed after these bytes, which have no fault
 pub record FailsAfter (area : Area) (free bs : List ℕ) (left left' : Option (List ℕ)) (d d' : DiskView) : Type 0 where
   pub area_is : IsArea d area free
   pub bytes : AreRead bs left left'
@@ -213,7 +212,7 @@ pub record IsUnwritten (area : Area) (free bs : List ℕ) (left left' : Option (
   pub called : IsCalledAtMost (1 + 3 * (length bs / 4096)) d d'
   pub risen : HasRisen d.faults d'.faults
 
--- the whole stream was written, and a call failed by which the area was to be marked
+-- the whole stream was written, but a call that marks the area failed
 pub record IsUnmarked (why : InStop) (area : Area) (free bs : List ℕ) (left left' : Option (List ℕ))
     (d d' : DiskView) : Type 0 where
   pub area_is : IsArea d area free
@@ -224,11 +223,11 @@ pub record IsUnmarked (why : InStop) (area : Area) (free bs : List ℕ) (left le
   pub called : IsCalledAtMost (7 + 3 * (length bs / 4096)) d d'
   pub risen : HasRisen d.faults d'.faults
 
--- of some area, its slots and bytes that were read
+-- so for some area, its usable slots and the bytes that were read
 abbrev pub OfSome : (Area → List ℕ → List ℕ → Type 0) → Type 0
 OfSome P = (area : Area) × (free : List ℕ) × (bs : List ℕ) × P area free bs
 
--- by what an import ends with
+-- what was done, by the result of the import
 abbrev pub Ends : Option (List ℕ) → Option (List ℕ) → DiskView → DiskView → Result ℕ ImportStop → Type 0
 Ends left left' d d' (Ok n) = OfSome (λ area free bs. IsImported n area free bs left left' d d')
 Ends left left' d d' (Err Source) = OfSome (λ area free bs. FailsAfter area free bs left left' d d')
@@ -256,7 +255,7 @@ pub record ImportFailsAtSource (x x' : View) (status : Status) : Type 0 where
   pub out : x'.out ≡ x.out
   pub note : IsTried unread_note x.note x'.note
 
--- One of these, by what the outside told before an import and after it.
+-- How an import may end, by the view of the outside before and after it.
 pub data Imports (x x' : View) (status : Status) : Type 0 where
   imported : (n : ℕ) → Ends x.left x'.left x.disk x'.disk (Ok n) → Tells (imported_told n) status x x' →
       Imports x x' status
@@ -264,16 +263,16 @@ pub data Imports (x x' : View) (status : Status) : Type 0 where
       Tells (stop_told why) status x x' → Imports x x' status
   unread : ImportFailsAtSource x x' status → Imports x x' status
 
--- What a crash inside an import may leave, where the disk tells moments. `past` and `since` are the images that a crash
--- since a moment might have left, before the import and after it.
+-- What a crash inside an import may leave, if the disk tells moments. `past` and `since` are the images that a crash
+-- since a moment might have left, seen before the import and after it.
 
 -- All that the source had left was handed out, and it has come into an area of this image, after its mark.
 abbrev pub HasWhole : (left left' : Option (List ℕ)) → DiskImage → Type 0
 HasWhole left left' w =
     (area : Area) × (bs : List ℕ) × HandsOut (length bs) bs left left' × IsUsedUp left' × HasComeIn area bs w
 
--- The clock hasn't fallen. A marked header block that a crash may leave it might have left before the import; or the
--- whole stream is there.
+-- The clock hasn't gone back. A marked header block that a crash may leave is one that it might have left before the
+-- import, or the whole stream is on the disk.
 pub record ImportsInside (left left' : Option (List ℕ)) (before now : ℕ) (past since : ℕ → DiskImage →
     Type 0) : Type 0 where
   pub later : before ≤ now

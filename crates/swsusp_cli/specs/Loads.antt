@@ -26,12 +26,12 @@ is_resumed _ = false
 abbrev pub written_told : Hardware → Memory → RunResult
 written_told h m = record { status = Done; out = dump_bytes h m; note = [] }
 
--- after a resume that ended well out is the dump of the memory that it restored
+-- after a resume that succeeded, out is the dump of the memory that it restored
 abbrev pub resume_told : Hardware → Memory → Ended → RunResult
 resume_told h m ended = if is_resumed ended.reply then written_told h m else stopped_told ended
 
--- The image was resumed into the machine of the dump, which then has this memory, or it has answered why not. What it
--- did over the disk is a run that ended so.
+-- The image was resumed into the dump's machine, which is shown with its memory restored; or the machine replied why
+-- not. What it did over the disk is a run with this ending.
 pub record HasLoaded {X : Type 0} (D : Ghosts X) (before after : X) (check : IdentCheck) (x x' : View) (status : Status)
     (dump : DumpValue) (ended : Ended) : Type 0 where
   pub dump_is : IsDump x x' dump
@@ -41,7 +41,7 @@ pub record HasLoaded {X : Type 0} (D : Ghosts X) (before after : X) (check : Ide
   pub ran : RanAs (IsResumption check ended) D dump.hw dump.memory shown before after
   pub orders : x'.disk.orders ≡ x.disk.orders
 
--- One of these, by what the outside told before a resume and after it. Where no machine is made the disk is as it was.
+-- How a resume may end, by the view of the outside before and after it. If no machine is made, the disk is as it was.
 pub data Resumes {X : Type 0} (D : Ghosts X) (before after : X) (check : IdentCheck) (x x' : View)
     (status : Status) : Type 0 where
   no_dump : (fault : DumpFault) → IsNoDump x x' status fault → after ≡ before → Resumes D before after check x x' status

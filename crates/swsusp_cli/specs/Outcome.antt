@@ -14,7 +14,7 @@ use Rattle.swsusp_cli.specs.declared.formatting.Unformatted.TheVariants.{Write, 
 use Rattle.command_kit.specs.declared.status.Status.{Status}
 use Rattle.command_kit.specs.declared.status.Status.TheVariants.{Done, Refused, Input, Stream, Device}
 
--- Answers of a replay that doesn't play.
+-- What a replay that plays nothing prints.
 abbrev pub small_told : ℕ → ℕ → RunResult
 small_told blocks need = record { status = Refused; out = []; note = small_note blocks need }
 
@@ -28,17 +28,17 @@ call_note Sync = sync_note
 abbrev pub unformatted_told : Unformatted → RunResult
 unformatted_told call = record { status = Device; out = []; note = call_note call }
 
--- this is told
+-- this result is told
 abbrev pub Tells : RunResult → Status → View → View → Type 0
 Tells told status x x' = IsTold told status x.out x'.out x.note x'.note
 
--- what was left is this script, and is read to its end
+-- what was left of the input is this script, and is read to its end
 pub record IsScript (x x' : View) (script : ScriptValue) : Type 0 where
   pub says : (bytes : List ℕ) → x.left ≡ Some bytes → script_of bytes ≡ Ok script
   pub over : IsUsedUp x'.left
   pub few : length script.events ≤ 100000
 
--- the input is no script: its first fault is told, and the disk isn't called
+-- the input is no script: its first fault is reported, and the disk isn't called
 pub record IsNoScript (x x' : View) (status : Status) (fault : ScriptFault) : Type 0 where
   pub says : (bytes : List ℕ) → x.left ≡ Some bytes → script_of bytes ≡ Err fault
   pub told : Tells (fault_told fault) status x x'
@@ -49,7 +49,7 @@ pub record IsOutOfMemory (x x' : View) (status : Status) : Type 0 where
   pub told : Tells memory_told status x x'
   pub untouched : x'.disk ≡ x.disk
 
--- the source failed: that is noted, out is as before, and the disk isn't called
+-- the source failed: a note of that is tried, out is as before, and the disk isn't called
 pub record FailsAtSource (x x' : View) (status : Status) : Type 0 where
   pub status_is : status ≡ Stream
   pub risen : disk.HasRisen x.read_faults x'.read_faults
@@ -74,7 +74,7 @@ pub record IsUnformatted (x x' : View) (status : Status) (script : ScriptValue) 
   pub content : disk.Changes (FailsToFormat script.hardware script.last script.bad call) x.disk.content x'.disk.content
   pub orders : x'.disk.orders ≡ x.disk.orders
 
--- all events were played: out took the lines of a run of the plain machine
+-- all events were played, and out took the lines of a run of the plain machine
 pub record IsPlayed (x x' : View) (status : Status) (script : ScriptValue) : Type 0 where
   pub script_is : IsScript x x' script
   pub roomy : LieBelow script.hardware x.disk.blocks
@@ -82,8 +82,8 @@ pub record IsPlayed (x x' : View) (status : Status) (script : ScriptValue) : Typ
   pub prints : Prints script x x'
   pub note : IsPrinted [] x.note x'.note
 
--- Out failed: it took a front of the lines of a run over first events, and the fault is noted. Or all is printed, and
--- note failed.
+-- Out failed: it took a front of the lines of a run over the first events, and the fault is noted. Or everything was
+-- printed, and note failed.
 pub record IsPrintedInPart (x x' : View) (status : Status) (script : ScriptValue) : Type 0 where
   pub script_is : IsScript x x' script
   pub roomy : LieBelow script.hardware x.disk.blocks
@@ -93,7 +93,7 @@ pub record IsPrintedInPart (x x' : View) (status : Status) (script : ScriptValue
       ⊎ (Prints script x x' × disk.HasRisen x.note.faults x'.note.faults)
   pub note : IsTried sink_note x.note x'.note
 
--- One of these, by what the outside told before a replay and after it.
+-- How a replay may end, by the view of the outside before and after it.
 pub data IsReplayed (x x' : View) (status : Status) : Type 0 where
   no_script : (fault : ScriptFault) → IsNoScript x x' status fault → IsReplayed x x' status
   out_of_memory : IsOutOfMemory x x' status → IsReplayed x x' status
@@ -106,11 +106,11 @@ pub data IsReplayed (x x' : View) (status : Status) : Type 0 where
 
 -- Input read to its end, or to one byte past the largest script.
 
--- at most so many of the bytes that were left were handed out
+-- at most the given number of the bytes that were left were handed out
 abbrev pub HandsOutAtMost : ℕ → Option (List ℕ) → Option (List ℕ) → Type 0
 HandsOutAtMost most before after = (bytes : List ℕ) × (length bytes ≤ most) × HandsOut (length bytes) bytes before after
 
--- what was left is these bytes and what is left now; nothing is, or the bytes are too many for a script
+-- what was left is these bytes and then what is left now; nothing is left, or the bytes are too many for a script
 abbrev pub IsReadAs : Option (List ℕ) → List ℕ → Option (List ℕ) → Type 0
 IsReadAs None bytes None = Unit {0}
 IsReadAs None bytes (Some new) = ⊥

@@ -13,8 +13,8 @@ use Rattle.swsusp_cli.specs.Replay.{IsNoSlot, orders_of}
 use Rattle.world_runs.specs.Turns.{AreCounted, steps_of}
 use Rattle.command_kit.specs.View.{DiskView}
 
--- From the state a and the content c the events gave these replies and ended in b and c', for which the world stands.
--- The area on the disk and the blocks on which no slot lies stayed, and b is a state of a replay.
+-- From the state a and the content c, the events gave these replies and led to b and c', for which the world stands.
+-- The area on the disk and the blocks on which no slot lies stayed as they were, and b is a state of a replay.
 pub record Played (old new : World) (events : List Event) (now : Option disk.Content) (c c' : disk.Content)
     (a b : State) (replies : List Reply) : Type 0 where
   pub told : now ≡ Some c'
@@ -24,9 +24,9 @@ pub record Played (old new : World) (events : List Event) (now : Option disk.Con
   pub of_replay : IsOfReplay b
   pub unwritten : 0 < (hardware_of old).slots → (b : ℕ) → IsNoSlot (hardware_of old) b → LeavesBlock b c c'
 
--- Each event gave a reply, each step made at most one call of the disk, which was asked for just what the events ask
--- for, its count of faults allows for the replies, and they are a run from every content and state of a replay that the
--- world stood for.
+-- Each event got a reply, and each step made at most one call of the disk. The disk was asked for exactly what the
+-- events ask for, and its count of faults allows for the replies. From every content and state of a replay that the
+-- world stood for, the replies are a run.
 pub record HasPlayed (old new : World) (events : List Event) (replies : List Reply)
     (before now : DiskView) : Type 0 where
   pub size : length replies ≡ length events

@@ -5,7 +5,7 @@ use Rattle.script.specs.Grammar.{ScriptValue, script_of}
 use Rattle.swsusp_cli.specs.Stops.{LacksScript}
 use Rattle.swsusp_cli.specs.declared.stop.Stop.{Stop}
 
--- what was left, where it is told, is this script, and is read to its end; or it is none
+-- the input, if it tells its bytes, is this script and was read to its end; or it is no script
 abbrev pub IsReadied : Option (List ℕ) → Option (List ℕ) → Result ScriptValue Stop → Type 0
 IsReadied before after (Ok script) =
     ((bytes : List ℕ) → before ≡ Some bytes → script_of bytes ≡ Ok script) × IsUsedUp after

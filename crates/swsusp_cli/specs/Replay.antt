@@ -27,11 +27,11 @@ use Rattle.swsusp_cli.specs.declared.formatting.Unformatted.TheVariants.{Write, 
 
 -- The formatting of an area at the block of its first slot.
 
--- each slot lies on a block of a disk of so many
+-- each slot lies on one of the first `blocks` blocks
 abbrev pub LieBelow : Hardware → ℕ → Type 0
 LieBelow h blocks = (s : ℕ) → s < h.slots → block_of_slot h s < blocks
 
--- A disk needs so many blocks: the greatest on which a slot lies, and one more.
+-- The number of blocks that a disk needs: one more than the highest block on which a slot lies.
 pub record IsNeeded (h : Hardware) (need : ℕ) : Type 0 where
   pub enough : LieBelow h need
   pub furthest : ℕ
@@ -52,8 +52,8 @@ abbrev pub calls_until : Unformatted → ℕ → ℕ
 calls_until Write calls = raised calls
 calls_until Sync calls = raised (raised calls)
 
--- What these events ask the disk for, beside its reads, writes and syncs: each cut a restart, and each arm that calls
--- fail, with the event's own numbers.
+-- What these events ask of the disk besides reads, writes and syncs: a restart for each cut, and calls that fail for
+-- each arm, with the event's own numbers.
 abbrev pub orders_of : List Event → List Order
 orders_of [] = []
 orders_of (e ∷ events) = orders_after e [] ++ orders_of events
@@ -62,9 +62,9 @@ orders_of (e ∷ events) = orders_after e [] ++ orders_of events
 abbrev pub IsNoSlot : Hardware → ℕ → Type 0
 IsNoSlot h b = (s : ℕ) → s < h.slots → block_of_slot h s ≢ b
 
--- Over a disk that held c the script's area was formatted, and the replies are a run of the plain machine over these
--- events, which begins off with nothing held. What is shown of the world, and what the disk holds, stand for the state
--- that the run ends in. Blocks on which no slot lies have kept their bytes in every image of the disk.
+-- The script's area was formatted over a disk that held c. The replies are a run of the plain machine over these
+-- events, from a machine that is off and a disk without an image. What is shown of the world and what the disk holds
+-- stand for the state at the end of the run. Blocks that belong to no slot kept their bytes in every image of the disk.
 pub record IsRun (x x' : DiskView) (script : ScriptValue) (events : List Event) (replies : List Reply)
     (c : disk.Content) : Type 0 where
   pub formatted : disk.Content
@@ -77,9 +77,9 @@ pub record IsRun (x x' : DiskView) (script : ScriptValue) (events : List Event) 
   pub stands : Stands script.hardware shown held end
   pub unwritten : (b : ℕ) → IsNoSlot script.hardware b → LeavesBlock b c held
 
--- Each event gave a reply, each step made at most one call of the disk after the formatting's two, the disk was asked
--- for just what its events ask for, its count of faults allows for the replies, and where it tells its content the
--- replies are a run.
+-- Each event got a reply, and each step made at most one call of the disk, after the formatting's two. The disk was
+-- asked for exactly what the events ask for, and its count of faults allows for the replies. If the disk tells its
+-- content, the replies are a run.
 pub record AreReplies (x x' : DiskView) (script : ScriptValue) (events : List Event)
     (replies : List Reply) : Type 0 where
   pub size : length replies ≡ length events
@@ -88,15 +88,15 @@ pub record AreReplies (x x' : DiskView) (script : ScriptValue) (events : List Ev
   pub faults : AreCounted replies x.faults x'.faults
   pub run : (c : disk.Content) → x.content ≡ Some c → IsRun x x' script events replies c
 
--- Out took the lines of these replies, or those of all but the last and a front of that one's: nothing is played once
--- out has failed.
+-- Out took the lines of these replies, or all but the last and a front of the last: nothing is played after out has
+-- failed.
 abbrev pub TakesToLast : List Reply → Option (List ℕ) → Option (List ℕ) → Type 0
 TakesToLast replies old new =
     TakesAll (text_of replies) old new
     ⊎ ((rs : List Reply) × (r : Reply) × (replies ≡ rs ++ r ∷ []) × (mid : Option (List ℕ))
     × TakesAll (text_of rs) old mid × TakesFront (line_of r) mid new)
 
--- Out took the lines of the replies to all events; it took those of the replies to some first events, up to the last.
+-- Out took the lines of the replies to all events; or of those to some first events, the last line perhaps in part.
 abbrev pub Prints : ScriptValue → View → View → Type 0
 Prints script x x' =
     (replies : List Reply) × AreReplies x.disk x'.disk script script.events replies

@@ -1,4 +1,4 @@
--- What is told where no machine is made: words that don't parse, and `inspect`.
+-- What is printed when no machine is made: for words that don't parse, and for `inspect`.
 use Rattle.std.specs.Prelude.{◌≡◌, ◌⊎◌, ℕ, List, Option, IfSome, nat_lt, if◌then◌else◌, [], ◌++◌, codes, decimal, ◌==◌}
 use Rattle.std.specs.Prelude.{bit_and}
 use Rattle.definitions.specs.Disk.{Content, HasRisen, raised, as_it_reads, block}
@@ -26,7 +26,7 @@ header_page offset blocks content = if nat_lt offset blocks then block (as_it_re
 abbrev pub area_text : ℕ → ℕ → List ℕ
 area_text last bad = codes "area last " ++ decimal last ++ codes " bad " ++ decimal bad
 
--- the hardware signature, where the image carries one (SF_HW_SIG)
+-- the hardware signature, if the image carries one (SF_HW_SIG)
 abbrev pub hw_text : Mark → List ℕ
 hw_text mark = if bit_and mark.flags 8 == 0 then codes "-" else decimal mark.hw_sig
 
@@ -47,24 +47,24 @@ inspected Old = refused no_swap.Old
 inspected (Other sig) = refused (no_swap.Signature sig)
 inspected (BadArea why) = refused (no_swap_at why)
 
--- how many reads, writes and syncs there were after one of a block, which isn't made where the disk has no such block
+-- the count of calls after the read of a block, which isn't made if the disk has no such block
 abbrev pub calls_for : ℕ → ℕ → ℕ → ℕ
 calls_for offset blocks calls = if nat_lt offset blocks then raised calls else calls
 
--- what is told of block N of a disk of so many blocks, or that it couldn't be read
+-- what is said of block `offset` of a disk of `blocks` blocks, or that it couldn't be read
 abbrev pub IsInspected : ℕ → ℕ → Option Content → ℕ → ℕ → RunResult → Type 0
 IsInspected offset blocks content before after told =
     ((page : List ℕ) × IfSome content (λ held. page ≡ header_page offset blocks held)
     × (told ≡ inspected (area_kind page)))
     ⊎ ((told ≡ unread) × HasRisen before after)
 
--- the words don't parse, and that is told; the disk isn't called
+-- the words don't parse, and that is reported; the disk isn't called
 pub record IsRefusal (x x' : View) (status : Status) : Type 0 where
   pub text : List ℕ
   pub told : Tells (unparsed text) status x x'
   pub untouched : x'.disk ≡ x.disk
 
--- block N is read, if the disk has it, and is told of; nothing is written
+-- block `offset` is read, if the disk has it, and described; nothing is written
 pub record IsInspection (offset : ℕ) (x x' : View) (status : Status) : Type 0 where
   pub answer : RunResult
   pub says : IsInspected offset x.disk.blocks x.disk.content x.disk.faults x'.disk.faults answer
@@ -73,7 +73,8 @@ pub record IsInspection (offset : ℕ) (x x' : View) (status : Status) : Type 0 
   pub calls : x'.disk.calls ≡ calls_for offset x.disk.blocks x.disk.calls
   pub orders : x'.disk.orders ≡ x.disk.orders
 
--- One of these, by what the outside told before and after. Memory may be refused before the disk is called.
+-- How wrong words or an inspection may end, by the view of the outside before and after. Memory may be refused before
+-- the disk is called.
 abbrev pub Refuses : (x x' : View) → Status → Type 0
 Refuses x x' status = IsRefusal x x' status ⊎ IsOutOfMemory x x' status
 

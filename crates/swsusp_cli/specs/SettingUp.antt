@@ -39,7 +39,7 @@ abbrev pub IsNotSetUp : ScriptValue → DiskView → DiskView → Unready → Ty
 IsNotSetUp script x x' (Small blocks need) = HasTooFew script x x' blocks need
 IsNotSetUp script x x' (NotFormatted call) = FailsToSetUp script x x' call
 
--- what is told of it
+-- what is printed if the set-up fails
 abbrev pub unready_told : Unready → RunResult
 unready_told (Small blocks need) = small_told blocks need
 unready_told (NotFormatted call) = unformatted_told call

@@ -1,4 +1,4 @@
--- Why a command has no script or no dump to work on, and what is told of it.
+-- Why a command has no script or no dump to work on, and what is printed about it.
 use Rattle.std.specs.Prelude.{◌≡◌, ℕ, List, Option, Some, Err, ⊤}
 use Rattle.dump_file.specs.Dump.{IsReadWithin, dump_of}
 use Rattle.dump_file.specs.declared.dump.DumpStop.{DumpStop}
@@ -33,14 +33,14 @@ dump_stop (of_dump.Fault fault) = Dump fault
 dump_stop of_dump.SourceFault = Source
 dump_stop of_dump.NoMemory = Memory
 
--- what was left, where it is told, is no script: it has this first fault
+-- the input, if it tells its bytes, is no script: it has this first fault
 abbrev pub LacksScript : Option (List ℕ) → Stop → Type 0
 LacksScript left Source = ⊤
 LacksScript left Memory = ⊤
 LacksScript left (Script fault) = (bytes : List ℕ) → left ≡ Some bytes → script_of bytes ≡ Err fault
 LacksScript left (Dump fault) = ⊥
 
--- what was left, where it is told, is no dump: it has this first fault, and wasn't read much further
+-- the input, if it tells its bytes, is no dump: it has this first fault, and was read no further than shows it
 abbrev pub LacksDump : Option (List ℕ) → Option (List ℕ) → Stop → Type 0
 LacksDump left after Source = ⊤
 LacksDump left after Memory = ⊤
@@ -48,7 +48,7 @@ LacksDump left after (Script fault) = ⊥
 LacksDump left after (Dump fault) =
     (bytes : List ℕ) → left ≡ Some bytes → (dump_of bytes ≡ Err fault) × IsReadWithin bytes fault after
 
--- of a source that failed a note is tried, once, and out isn't called; every other cause is told as an answer
+-- after a failed source a note is tried, once, and out isn't called; every other cause is printed as an answer
 abbrev pub IsStopTold : Stop → Status → SinkView → SinkView → SinkView → SinkView → Type 0
 IsStopTold Source status out out' note note' = (status ≡ Stream) × (out' ≡ out) × IsTried unread_note note note'
 IsStopTold Memory status out out' note note' = IsTold memory_told status out out' note note'

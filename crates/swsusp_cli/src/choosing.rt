@@ -10,14 +10,14 @@ use swsusp_words::{Command, Unparsed};
 pub enum Choice {
     /// A swap file or a block device.
     File(String),
-    /// A disk in memory, of so many blocks.
+    /// A disk in memory with the given number of blocks.
     Memory(u32),
 }
 
-/// How many blocks the disk in memory has that a script or a drill is played over.
+/// The number of blocks of the disk in memory that a script or a drill is played over.
 const MEMORY_BLOCKS: u32 = 16384;
 
-/// The disk that a list of words asks for. For an export, and where the words don't parse, it is one block in memory.
+/// Returns the disk that a list of words asks for: for an export, and if the words don't parse, one block in memory.
 pub fn swap_name(alloc: Global, words: &[String]) -> Result<Choice, NoMemory>
     ensures { IfOk result (IsChoice (map string_bytes words.now)) }
 {

@@ -20,7 +20,7 @@ use sector_disk::Disk;
 use std::alloc::Global;
 use world_core::World;
 
-/// Plays the run of drill `number`, and prints a line that sums its replies up.
+/// Plays the run of drill `number`, and prints a line that sums up its replies.
 #[inline(never)]
 pub fn drill<O: Sink, N: Sink, D: Disk>(
     alloc: Global,
@@ -85,7 +85,7 @@ pub fn play_through<D: Disk>(world: &mut World, disk: &mut D, events: &[Event]) 
     tally
 }
 
-/// All is played: the summary is left to say.
+/// Returns the answer once all events are played: the summary.
 fn summed(number: u32, tally: &Tally) -> Answer
     ensures told { told_by result ≡ record { status = Done; out = summary number tally.now; note = [] } }
     ensures status { result.status ≡ Done }

@@ -32,7 +32,7 @@ pub fn dump_of_input<I: Source>(alloc: Global, input: &mut I) -> Result<Dump, St
     Ok(read_dump(alloc, input)?)
 }
 
-/// A new machine, which keeps the memory of its dump.
+/// Makes a new machine that keeps the memory of its dump.
 pub fn machine_of(alloc: Global, dump: Dump) -> Result<World, NoMemory>
     requires { Fits dump.hw dump.frames }
     ensures hardware { IfOk result (λ world. IsHardware (hardware_of world)) }
@@ -44,7 +44,7 @@ pub fn machine_of(alloc: Global, dump: Dump) -> Result<World, NoMemory>
     World::from_dump(alloc, dump)
 }
 
-/// The input is no dump.
+/// Returns the answer to an input that is no dump.
 pub fn no_dump(fault: DumpFault) -> Answer
     ensures told { told_by result ≡ dump_told fault }
     ensures status { result.status ≡ Status.Input }
@@ -61,7 +61,7 @@ pub fn no_dump(fault: DumpFault) -> Answer
     }
 }
 
-/// A dump's kind of fault, and what its place counts.
+/// Adds a dump's kind of fault, and what its place counts.
 fn put_kind(line: &mut Line, kind: DumpKind)
     requires { length line.old ≡ 5 }
     ensures added { line.new ≡ line.old ++ kind_text kind }
@@ -80,7 +80,7 @@ fn put_kind(line: &mut Line, kind: DumpKind)
     });
 }
 
-/// An operation has ended otherwise than well: its last reply is noted.
+/// Returns the answer to an operation that didn't succeed: its last reply, as a note.
 pub fn stopped(ended: &Ended) -> Answer
     ensures told { told_by result ≡ stopped_told ended.now }
     ensures status { result.status ≢ Status.Stream }

@@ -13,7 +13,7 @@ use saveable::{View, mark_all};
 use std::alloc::Global;
 use stream_out::{SlotsInUse, StreamOut};
 
-/// How many bytes of the stream are written at a time.
+/// The number of bytes of the stream that are written at a time.
 const PIECE: usize = 65536;
 
 /// Reads a dump to its end, and writes the image of its memory as a stream of bytes. No disk is used.
@@ -64,7 +64,7 @@ ghost use Rattle.std.specs.Prelude.{◌<◌, IfOk, vec_len};
 ghost use Rattle.plain_machine.specs.Machine.{Fits, IsHardware};
 ghost use Rattle.stream_out.specs.Pages.{IsSaveableSet};
 
-/// The saveable page frames of a dump.
+/// Returns the set of a dump's saveable page frames.
 fn saveable_set(alloc: Global, dump: &Dump) -> Result<Bitmap, NoMemory>
     requires { Fits dump.now.hw dump.now.frames }
     ensures set { IfOk result (IsSaveableSet dump.now.hw dump.now.frames) }
@@ -92,7 +92,7 @@ fn empty_piece(alloc: Global) -> Result<Vec<u8>, NoMemory>
 ghost use Rattle.command_kit.specs.AnswerOf.{told_by};
 ghost use Rattle.swsusp_cli.specs.Exports.{slots_told};
 
-/// A task has a slot.
+/// Returns the answer to a dump in which a task has a slot.
 fn in_use(refusal: SlotsInUse) -> Answer
     ensures told { told_by result ≡ slots_told refusal.slot }
     ensures status { result.status ≡ Status.Refused }
@@ -112,7 +112,7 @@ ghost use Rattle.std.specs.Prelude.{◌≤◌, length, [], OnOk, OnErr};
 ghost use Rattle.definitions.specs.Streams.{TakesAll, TakesFront};
 ghost use Rattle.command_kit.specs.Told.{FailsToPrint, IsPrinted, IsTold};
 
-/// Tells a stream on out, and nothing on note.
+/// Writes a stream to out, and nothing to note.
 fn tell_stream<O: Sink, N: Sink>(
     stream: &mut StreamOut<'_>,
     piece: &mut [u8],

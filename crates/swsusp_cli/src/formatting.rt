@@ -18,7 +18,7 @@ pub enum Unformatted {
     Sync,
 }
 
-/// How many blocks a disk needs for a machine's swap area.
+/// Returns how many blocks a disk needs for a machine's swap area.
 pub fn blocks_needed(hw: &Hardware) -> u32
     ensures need { IsNeeded hw.now result }
     ensures hardware { IsHardware hw.now }
@@ -51,7 +51,7 @@ pub fn format<D: Disk>(
     ensures orders { D.orders disk.new ≡ D.orders disk.old }
     ensures blocks { D.block_count disk.new ≡ D.block_count disk.old }
 {
-    // Only what is read is known to have the size of its type.
+    // Reading the number of blocks tells the prover that it fits its type.
     let _blocks = disk.blocks();
     let header = hw.extents().block(0) as u32;
     match disk.write(header, &area_page(last, bad)) {

@@ -24,8 +24,8 @@ pub struct Wanted {
     pub size: Option<u64>,
 }
 
-/// Reads a dump to its end, and lets its machine hibernate; before, its cached page frames are dropped until so many
-/// saveable ones are left, where a size is asked for.
+/// Reads a dump to its end and lets its machine hibernate. If a size is asked for, cached page frames are dropped first
+/// until `size` saveable ones are left.
 #[inline(never)]
 pub fn hibernate_dump<I: Source, O: Sink, N: Sink, D: Disk>(
     alloc: Global,
@@ -55,7 +55,7 @@ pub fn hibernate_dump<I: Source, O: Sink, N: Sink, D: Disk>(
     hibernation_answer(&ended).tell(out, note)
 }
 
-/// What a hibernation says at its end.
+/// Returns the answer to a hibernation that has ended.
 fn hibernation_answer(ended: &Ended) -> Answer
     ensures told { told_by result ≡ hibernation_told ended.now }
     ensures status { result.status ≢ Status.Stream }

@@ -26,10 +26,10 @@ use stream_check::{Kind, StreamFault};
 use stream_in::{InStop, StreamIn};
 use thiserror::Error;
 
-/// How many bytes of the stream are read at a time.
+/// The number of bytes of the stream that are read at a time.
 const PIECE: usize = 65536;
 
-/// How many bytes the longest stream has: the pages of 65,536 page frames, 128 pages of their numbers, and the info
+/// The number of bytes of the longest stream: the pages of 65,536 page frames, 128 pages of their numbers, and the info
 /// page.
 const MOST_BYTES: usize = 4096 * 65665;
 
@@ -90,7 +90,7 @@ pub fn import_stream<I: Source, O: Sink, N: Sink, D: Disk>(
     }
 }
 
-/// Imports an image, and answers how many pages were saved. All memory is taken before the disk is called.
+/// Imports an image, and returns how many pages were saved. All memory is taken before the disk is called.
 fn import_image<I: Source, D: Disk>(
     alloc: Global,
     input: &mut I,
@@ -157,7 +157,7 @@ fn feed_input<I: Source, D: Disk>(
     }
 }
 
-/// Reads some bytes into a piece, and answers how many: 0 at the end of input, and never more than so many.
+/// Reads some bytes into a piece, at most `most`, and returns how many came: 0 at the end of input.
 fn read_piece<I: Source>(input: &mut I, piece: &mut [u8], most: usize) -> Result<usize, Failed>
     requires some { 0 < length piece.old }
     requires room { 0 < most }
@@ -173,7 +173,7 @@ fn read_piece<I: Source>(input: &mut I, piece: &mut [u8], most: usize) -> Result
     input.read(&mut piece[..room])
 }
 
-/// An image of so many pages was imported.
+/// Returns the answer after the import of an image of `n` saved pages.
 fn imported(n: u32) -> Answer
     ensures told { told_by result ≡ imported_told n }
     ensures status { result.status ≡ Status.Done }
@@ -189,7 +189,7 @@ fn imported(n: u32) -> Answer
     }
 }
 
-/// What is said of an image that doesn't come in.
+/// Returns the answer if no image was imported.
 fn not_imported(stop: InStop) -> Answer
     ensures told { told_by result ≡ stop_told stop }
     ensures stream { result.status ≢ Status.Stream }
@@ -207,7 +207,7 @@ fn not_imported(stop: InStop) -> Answer
     }
 }
 
-/// The line of a reply is noted.
+/// Returns an answer with the line of a reply as a note.
 fn noted(status: Status, reply: &Reply) -> Answer
     ensures told { told_by result ≡ record { status = status; out = []; note = line_of reply.now } }
     ensures status { result.status ≡ status }
@@ -221,7 +221,7 @@ fn noted(status: Status, reply: &Reply) -> Answer
     }
 }
 
-/// The input is no stream.
+/// Returns the answer to an input that is no stream.
 fn no_stream(fault: StreamFault) -> Answer
     ensures told { told_by result ≡ stream_told fault }
     ensures status { result.status ≡ Status.Input }
@@ -238,7 +238,7 @@ fn no_stream(fault: StreamFault) -> Answer
     }
 }
 
-/// A kind of fault, and what its place counts.
+/// Adds a kind of fault, and what its place counts.
 fn put_kind(line: &mut Line, kind: Kind)
     requires { length line.old ≡ 7 }
     ensures added { line.new ≡ line.old ++ kind_text kind }

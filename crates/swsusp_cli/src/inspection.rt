@@ -13,8 +13,8 @@ use script::put_no_swap;
 use sector_disk::Disk;
 use sig_header::{AreaKind, Mark};
 
-/// Reads a block, and tells what it says as the header of an area. One that isn't below the disk's blocks counts as
-/// zeros, and isn't read.
+/// Reads a block, and says what it means as the header of an area. A block that the disk doesn't have counts as zeros,
+/// and isn't read.
 pub fn inspect<D: Disk>(disk: &mut D, offset: u32) -> Answer
     ensures answer { IsInspected offset (D.block_count disk.old) (D.content disk.old) (D.faults disk.old)
         (D.faults disk.new) (told_by result) }
@@ -124,7 +124,7 @@ fn image_line(mark: &Mark) -> Line
     line
 }
 
-/// The hardware signature, where the image carries one.
+/// Adds the hardware signature, if the image carries one.
 fn put_hw(line: &mut Line, mark: &Mark)
     requires { length line.old ≤ 160 }
     ensures added { line.new ≡ line.old ++ hw_text mark.now }

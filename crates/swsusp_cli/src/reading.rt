@@ -7,10 +7,10 @@ use byte_streams::Source;
 use std::alloc::Global;
 use thiserror::Error;
 
-/// How many bytes a script may have.
+/// The most bytes that a script may have.
 const MAX_BYTES: usize = 1_048_576;
 
-/// How many bytes are read at a time.
+/// The number of bytes that are read at a time.
 const PIECE: usize = 4096;
 
 /// Why input wasn't read to its end.

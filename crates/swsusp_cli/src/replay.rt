@@ -74,7 +74,7 @@ pub fn parse_input<I: Source>(alloc: Global, input: &mut I) -> Result<Script, St
     Ok(parse(alloc, bytes.as_slice())?)
 }
 
-/// The source failed: that is noted, once.
+/// Tries to note that the source failed, once.
 pub fn unread<N: Sink>(note: &mut N) -> Status
     ensures status { result ≡ Status.Stream }
     ensures note { IsTried unread_note
@@ -85,7 +85,7 @@ pub fn unread<N: Sink>(note: &mut N) -> Status
     Status::Stream
 }
 
-/// Out failed: that is noted, once.
+/// Tries to note that out failed, once.
 fn cut_off<N: Sink>(note: &mut N) -> Status
     ensures status { result ≡ Status.Stream }
     ensures note { IsTried sink_note
@@ -96,7 +96,7 @@ fn cut_off<N: Sink>(note: &mut N) -> Status
     Status::Stream
 }
 
-/// All is played: nothing is left to say.
+/// Returns the answer once all events are played: nothing is left to say.
 fn done() -> Answer
     ensures told { told_by result ≡ done }
     ensures status { result.status ≡ Status.Done }
@@ -108,7 +108,7 @@ fn done() -> Answer
     }
 }
 
-/// The input is no script.
+/// Returns the answer to an input that is no script.
 pub fn no_script(fault: ScriptFault) -> Answer
     ensures told { told_by result ≡ fault_told fault }
     ensures status { result.status ≡ Status.Input }

@@ -51,7 +51,7 @@ pub fn resume_dump<I: Source, O: Sink, N: Sink, D: Disk>(
     tell_end(&hw, world.frames(), &ended, out, note)
 }
 
-/// Tells how a resume has ended: where it ended well, by the dump of memory on out.
+/// Prints how a resume has ended: if it succeeded, the dump of memory on out.
 fn tell_end<O: Sink, N: Sink>(
     hw: &Hardware,
     frames: &Frames,
@@ -76,8 +76,8 @@ fn tell_end<O: Sink, N: Sink>(
     tell_dump(hw, frames, out, note)
 }
 
-/// Prints the dump of a machine, and nothing as a note. Where a sink fails the status is `Stream`, and `sink fault` is
-/// tried as a note.
+/// Prints the dump of a machine, and nothing as a note. If a sink fails, the status is `Stream`; if that sink is out,
+/// `sink fault` is tried as a note.
 pub fn tell_dump<O: Sink, N: Sink>(
     hw: &Hardware,
     frames: &Frames,

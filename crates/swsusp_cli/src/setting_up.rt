@@ -36,7 +36,7 @@ impl Unready {
     ghost use Rattle.command_kit.specs.AnswerOf.{told_by};
     ghost use Rattle.swsusp_cli.specs.SettingUp.{IsFailedCall, unready_told};
 
-    /// What is told of it.
+    /// Returns what the program answers if the set-up fails.
     pub fn answer(self) -> Answer
         ensures told { told_by result ≡ unready_told self }
         ensures stream { result.status ≢ Status.Stream }

@@ -18,7 +18,7 @@ use sector_disk::Disk;
 use std::alloc::Global;
 use swsusp_words::{Command, Unparsed};
 
-/// Runs the program over its words, of which the first is its name.
+/// Runs the program over its words, the first of which is its name.
 pub fn run<I: Source, O: Sink, N: Sink, D: Disk>(
     alloc: Global,
     words: &[String],

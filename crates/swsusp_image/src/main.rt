@@ -1,4 +1,4 @@
-//! `swsusp_image`: looks into the hibernation image of a swap area, moves it and gives it up.
+//! `swsusp_image`: inspects the hibernation image of a swap area, copies it out and gives it up.
 #![tactic(auto)]
 
 use byte_streams::StdSink;
@@ -19,7 +19,7 @@ use std::fs::File;
 use std::io::{self, IsTerminal};
 use std::process::ExitCode;
 
-/// The status of a file that can't be opened.
+/// The exit status if a file can't be opened.
 const NOT_OPENED: u8 = 7;
 
 fn main(rt: HostRuntime) -> ExitCode {
@@ -61,7 +61,7 @@ fn main(rt: HostRuntime) -> ExitCode {
     }
 }
 
-/// The words without a first `--quiet`, in whose place the name of the program then stands, and whether there was one.
+/// Returns the words to parse, and whether `--quiet` comes first. If it does, it takes the place of the program's name.
 fn after_quiet(words: &[String]) -> (&[String], bool) {
     match words.get(1) {
         Some(word) if word.as_str() == "--quiet" => (&words[1..], true),
@@ -104,7 +104,7 @@ fn show_image(rt: &HostRuntime, area: Area<'_>, form: Form, quiet: bool) -> Exit
     finished(rt, status)
 }
 
-/// Writes the image of an area as a stream. What is wrong with it is noted.
+/// Writes the image of an area as a stream. Notes what is wrong with it.
 #[inline(never)]
 fn stream_image(rt: &HostRuntime, area: Area<'_>, quiet: bool) -> ExitCode {
     let (_held, mut disk) = match open_to_read(rt, area.swap, quiet) {
@@ -117,7 +117,7 @@ fn stream_image(rt: &HostRuntime, area: Area<'_>, quiet: bool) -> ExitCode {
     finished(rt, status)
 }
 
-/// Writes the saved page of a page frame. What is wrong with the image up to there is noted.
+/// Writes the saved page of a page frame. Notes what is wrong with the image up to that page.
 #[inline(never)]
 fn write_page(rt: &HostRuntime, area: Area<'_>, frame: u64, quiet: bool) -> ExitCode {
     let (_held, mut disk) = match open_to_read(rt, area.swap, quiet) {
@@ -137,7 +137,7 @@ fn write_page(rt: &HostRuntime, area: Area<'_>, frame: u64, quiet: bool) -> Exit
     finished(rt, status)
 }
 
-/// Compares the images of two areas. What is wrong with one of them is noted.
+/// Compares the images of two areas. Notes what is wrong with either of them.
 #[inline(never)]
 fn compare_images(
     rt: &HostRuntime,
@@ -150,7 +150,7 @@ fn compare_images(
         Ok(opened) => opened,
         Err(error) => return not_opened(rt, area.swap, &error),
     };
-    // How far the comparison is shows by the first area alone.
+    // The first area alone shows how far the comparison has come.
     let (_held, other_disk) = match open_to_read(rt, other, true) {
         Ok(opened) => opened,
         Err(error) => return not_opened(rt, other, &error),
@@ -171,7 +171,7 @@ fn compare_images(
     finished(rt, over.2)
 }
 
-/// Writes the dump of a loader for the image of an area, or of the machine that it saved. Why there is none is noted.
+/// Writes the dump of a loader for the image of an area, or of the machine that it saved. Notes why there is none.
 #[inline(never)]
 fn make_dump(rt: &HostRuntime, asked: &Asked<'_>, quiet: bool) -> ExitCode {
     let (_held, mut disk) = match open_to_read(rt, asked.swap, quiet) {
@@ -199,7 +199,7 @@ fn make_dump(rt: &HostRuntime, asked: &Asked<'_>, quiet: bool) -> ExitCode {
     finished(rt, status)
 }
 
-/// Writes the image of an area as a core file. What is wrong with it is noted.
+/// Writes the image of an area as a core file. Notes what is wrong with it.
 #[inline(never)]
 fn core_image(rt: &HostRuntime, area: Area<'_>, quiet: bool) -> ExitCode {
     let (_held, mut disk) = match open_to_read(rt, area.swap, quiet) {
@@ -225,7 +225,7 @@ fn discard_image(rt: &HostRuntime, area: Area<'_>) -> ExitCode {
     finished(rt, status)
 }
 
-/// Opens a swap file for reading alone, once closed standard streams have their places.
+/// Opens a swap file read-only, after taking the places of closed standard streams.
 fn open_to_read<'a>(
     rt: &'a HostRuntime,
     swap: &str,
@@ -240,7 +240,7 @@ fn open_to_read<'a>(
     Ok((held, ProgressDisk { disk, meter }))
 }
 
-/// Opens a swap file, once closed standard streams have their places.
+/// Opens a swap file for reading and writing, after taking the places of closed standard streams.
 fn open_to_write(rt: &HostRuntime, swap: &str) -> io::Result<(Held, FileDisk<File>)> {
     let held = hold(rt)?;
     if is_output(rt, swap)? {

@@ -1,4 +1,4 @@
-//! `swsusp_machine`: machines to try `swsusp` on, in memory dumps.
+//! `swsusp_machine`: makes machines, as memory dumps, to try `swsusp` on.
 #![tactic(auto)]
 
 use byte_streams::{StdSink, StdSource};
@@ -18,16 +18,16 @@ use std::process::ExitCode;
 use std::rt::{Stdin, Stdout};
 use std::{env, io};
 
-/// The status of a file that can't be opened.
+/// The exit status if a file can't be opened.
 const NOT_OPENED: u8 = 7;
 
-/// How many bytes of standard input are asked for at once.
+/// The bytes of standard input that are read at once.
 const INPUT_PIECE: usize = 65_536;
 
-/// How many bytes of a dump or a core file are handed to standard output at once.
+/// The bytes of a dump or a core file that are written to standard output at once.
 const OUTPUT_PIECE: usize = 65_536;
 
-/// How many blocks the disk in memory has that a script is played over.
+/// The blocks of the disk in memory that a script is played over.
 const MEMORY_BLOCKS: u32 = 16384;
 
 fn main(rt: HostRuntime) -> ExitCode {
@@ -62,7 +62,7 @@ fn main(rt: HostRuntime) -> ExitCode {
     }
 }
 
-/// The words without a first `--quiet`, in whose place the name of the program then stands, and whether there was one.
+/// Returns the words to parse, and whether `--quiet` comes first. If it does, it takes the place of the program's name.
 fn after_quiet(words: &[String]) -> (&[String], bool) {
     match words.get(1) {
         Some(word) if word.as_str() == "--quiet" => (&words[1..], true),
@@ -70,19 +70,19 @@ fn after_quiet(words: &[String]) -> (&[String], bool) {
     }
 }
 
-/// A disk of which is told how much was read and written, where that takes long.
+/// Makes a disk that shows how much of it was read and written, if that takes long.
 fn watched<D>(rt: &HostRuntime, disk: D, quiet: bool) -> ProgressDisk<'_, D> {
     let meter = Meter::new(rt, "swsusp_machine", quiet);
     ProgressDisk { disk, meter }
 }
 
-/// Standard input, of which pieces are asked for.
+/// Returns standard input, buffered.
 fn input_of(rt: &HostRuntime) -> io::Result<StdSource<BufReader<Stdin>>> {
     let reader = BufReader::with_capacity(rt.alloc(), INPUT_PIECE, rt.stdin())?;
     Ok(StdSource::new(reader))
 }
 
-/// Standard output, which is handed pieces.
+/// Returns standard output, buffered.
 fn output_of(rt: &HostRuntime) -> io::Result<StdSink<BufWriter<Stdout>>> {
     let writer = BufWriter::with_capacity(rt.alloc(), OUTPUT_PIECE, rt.stdout())?;
     Ok(StdSink::new(writer))
@@ -199,7 +199,7 @@ fn differ_files(rt: &HostRuntime, first: &str, second: &str) -> ExitCode {
     finished(rt, status)
 }
 
-/// Checks the image of a swap file, which is opened for reading alone.
+/// Checks the image of a swap file, which is opened read-only.
 #[inline(never)]
 fn check_file(rt: &HostRuntime, swap: &str, ident_check: IdentCheck, quiet: bool) -> ExitCode {
     let (_held, mut disk) = match open_to_read(rt, swap) {
@@ -224,7 +224,7 @@ fn check_file(rt: &HostRuntime, swap: &str, ident_check: IdentCheck, quiet: bool
     finished(rt, status)
 }
 
-/// Opens a swap file for reading alone, once closed standard streams have their places.
+/// Opens a swap file read-only, after taking the places of closed standard streams.
 fn open_to_read(rt: &HostRuntime, swap: &str) -> io::Result<(Held, FileDisk<File>)> {
     let held = hold(rt)?;
     if is_output(rt, swap)? {
@@ -233,7 +233,7 @@ fn open_to_read(rt: &HostRuntime, swap: &str) -> io::Result<(Held, FileDisk<File
     Ok((held, FileDisk::open_read_only(rt, swap)?))
 }
 
-/// Warns where a swap file seems to be given in place of the device that it lies in.
+/// Warns if a swap file seems to be given instead of the device that it lies on.
 fn warn_of_file(rt: &HostRuntime, disk: &mut FileDisk<File>) {
     if let Some(first) = first_map_beyond(disk) {
         let _ = eprintln!(rt;

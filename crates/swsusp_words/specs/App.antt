@@ -61,26 +61,26 @@ export_app = new_app (codes "export")
 abbrev pub import_app : App
 import_app = with_rule (new_app (codes "import")) swap_rule
 
--- the program, which has a version and wants one of the commands
+-- the program, which has a version and requires one of the commands
 abbrev pub program_app : App
 program_app = on_top (λ top. record top { has_version = true; subcommand_required = true }) (new_app (codes "swsusp"))
 
--- with the commands over a swap area
+-- the program with the commands over a swap area
 abbrev pub with_areas : App → App
 with_areas app =
     with_subcommand (with_subcommand (with_subcommand app inspect_app.top) hibernate_app.top) resume_app.top
 
--- with those that play a run
+-- the program with the commands that play a run
 abbrev pub with_players : App → App
 with_players app = with_subcommand (with_subcommand app replay_app.top) drill_app.top
 
--- with those over a stream
+-- the program with the commands over a stream
 abbrev pub with_streams : App → App
 with_streams app = with_subcommand (with_subcommand app export_app.top) import_app.top
 
 abbrev pub swsusp_app : App
 swsusp_app = with_streams (with_players (with_areas program_app))
 
--- clap reads of the command what the definition says
+-- clap reads the command as this definition
 abbrev pub IsApp : App → Command → Type 0
 IsApp app command = (app_of command ≡ app) × ((out-Command command).has_globals ≡ false)

@@ -1,4 +1,4 @@
--- A command as it is asked for.
+-- A command as it is requested.
 use Rattle.std.specs.Prelude.{◌≤◌, ⊤}
 use Rattle.swsusp_words.specs.Words.{Asked, inspect, hibernate, resume, replay, drill, export, import}
 use Rattle.swsusp_words.specs.declared.command.Command.{Command}

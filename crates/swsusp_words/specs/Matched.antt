@@ -13,7 +13,7 @@ use Rattle.swsusp_words.specs.Asked.{asked_by}
 use Rattle.swsusp_words.specs.declared.command.Command.{Command}
 use Rattle.swsusp_words.specs.Words.{Asked, inspect, hibernate, resume, replay, drill, export, import}
 
--- the number of so many bits that `FromStr` makes of a text
+-- the number of `bits` bits that `FromStr` makes of a text
 unfoldable pub parsed : ℕ → Text → Option ℕ
 parsed bits text =
     if is_numeral (without_leading_plus text) && nat_lt (digits_value 10 (without_leading_plus text)) (2 ^ bits)
@@ -23,7 +23,7 @@ parsed bits text =
 abbrev pub number_at : ℕ → Text → List Row → Option ℕ
 number_at bits id rows = option_and_then (parsed bits) (one_of id rows)
 
--- `get_flag`, of a text that is `true` or `false`
+-- `get_flag` of a text, which is `true` or `false`
 abbrev pub flag_of : Option Text → Option Bool
 flag_of None = Some false
 flag_of (Some text) =
@@ -83,6 +83,6 @@ abbrev pub asked_in : Option (Text × List Row) → Option Asked
 asked_in None = None
 asked_in (Some (name, rows)) = matched_by name rows
 
--- the command is what is asked for, where anything is
+-- the command is what is asked for, if anything is
 abbrev pub AnswersTo : Option Asked → Option Command → Type 0
 AnswersTo asked command = (x : Asked) → asked ≡ Some x → option_map asked_by command ≡ Some x

@@ -1,4 +1,4 @@
--- What an answer says that is no command.
+-- What an answer says that isn't a command.
 use Rattle.std.specs.Prelude.{◌≡◌, List, ℕ, None, true, codes, string_bytes, ⊤}
 use Rattle.clap.specs.Words.{takes}
 use Rattle.swsusp_words.specs.App.{swsusp_app}
@@ -6,12 +6,12 @@ use Rattle.swsusp_words.specs.Words.{command_of}
 use Rattle.swsusp_words.specs.declared.unparsed.Unparsed.{Unparsed}
 use Rattle.swsusp_words.specs.declared.unparsed.Unparsed.TheVariants as unparsed
 
--- a text is told of a list that isn't plain alone
+-- a text is given only for a list that isn't plain
 abbrev pub IsRefusedBy : List (List ℕ) → Unparsed → Type 0
 IsRefusedBy words (unparsed.Words text) = command_of words ≡ None
 IsRefusedBy words unparsed.NoMemory = ⊤
 
--- where clap takes such a list the text is the line `words`
+-- if clap takes such a list, the text is the line `words`
 abbrev pub SaysWords : List (List ℕ) → Unparsed → Type 0
 SaysWords words (unparsed.Words text) = takes swsusp_app words ≡ true → string_bytes text ≡ codes "words\n"
 SaysWords words unparsed.NoMemory = ⊤

@@ -1,4 +1,4 @@
--- Which words a command is spelled by.
+-- Which words spell a command.
 use Rattle.std.specs.Prelude.{◌≡◌, ◌<◌, ◌≤◌, ◌^◌, ◌⊎◌, ℕ, true, Some, None, List, [], ◌∷◌, codes, decimal, ⊤}
 use Rattle.page_core.specs.declared.format.Format.{Format}
 use Rattle.page_core.specs.declared.format.Format.TheVariants.{Plain, SkipZeros}
@@ -16,14 +16,14 @@ IsValid (drill number) = (1 ≤ number) × (number ≤ 2000)
 IsValid export = ⊤
 IsValid (import swap) = is_path swap ≡ true
 
--- the words of a hibernation with the number of an image's size
+-- the words of a hibernation with this number as the image's size
 abbrev pub IsSized : Format → List ℕ → List ℕ → List (List ℕ) → Type 0
 IsSized Plain number swap words = words ≡ codes "hibernate" ∷ codes "--image-size" ∷ number ∷ swap ∷ []
 IsSized SkipZeros number swap words =
     (words ≡ codes "hibernate" ∷ codes "--skip-zeros" ∷ codes "--image-size" ∷ number ∷ swap ∷ [])
     ⊎ (words ≡ codes "hibernate" ∷ codes "--image-size" ∷ number ∷ codes "--skip-zeros" ∷ swap ∷ [])
 
--- the words after the program's name are this command's
+-- the words after the program's name spell this command
 abbrev pub IsSpelled : Asked → List (List ℕ) → Type 0
 IsSpelled (inspect offset swap) words =
     ((offset ≡ 0) × (words ≡ codes "inspect" ∷ swap ∷ []))

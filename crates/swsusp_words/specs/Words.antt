@@ -25,17 +25,17 @@ abbrev pub is_path : List ℕ → Bool
 is_path [] = false
 is_path (b ∷ bs) = not (b == 45)
 
--- whether the first of several bytes is a 0
+-- whether there are several bytes and the first is a 0
 abbrev pub has_leading_zero : List ℕ → Bool
 has_leading_zero [] = false
 has_leading_zero (b ∷ []) = false
 has_leading_zero (b ∷ c ∷ bs) = b == 48
 
--- whether a word is digits, and at least one
+-- whether a word is one or more digits
 abbrev pub is_decimal : List ℕ → Bool
 is_decimal word = nat_lt 0 (length word) && list_all is_ascii_digit word
 
--- the number below a limit that a word of decimal digits without a leading zero is
+-- the number below a limit that a word gives in decimal digits without a leading zero
 unfoldable pub plain_number : ℕ → List ℕ → Option ℕ
 plain_number limit word =
     if not (has_leading_zero word) && is_decimal word && nat_lt (digits_value 10 word) limit
@@ -46,7 +46,7 @@ abbrev pub replay_of : List (List ℕ) → Option Asked
 replay_of [] = Some replay
 replay_of (word ∷ words) = None
 
--- the drill of a number that isn't 0
+-- the drill of a number, unless that is 0
 abbrev pub drill_by : Option ℕ → Option Asked
 drill_by None = None
 drill_by (Some number) = if nat_lt 0 number then Some (drill number) else None
@@ -72,15 +72,15 @@ inspect_of (option ∷ number ∷ swap ∷ []) =
     then option_map (λ offset. inspect offset swap) (plain_number (2 ^ 32) number) else None
 inspect_of (option ∷ number ∷ swap ∷ more ∷ words) = None
 
--- this, where the word names a file
+-- this request, if the word names a file
 abbrev pub over_file : List ℕ → Asked → Option Asked
 over_file swap asked = if is_path swap then Some asked else None
 
--- this, where the word is that option
+-- this request, if the word is that option
 abbrev pub with_option : List ℕ → List ℕ → Option Asked → Option Asked
 with_option word option asked = if pointwise nat_eq word option then asked else None
 
--- this, with the size that a plain number of 64 bits is, where the word after it names a file
+-- this request, with the size that a plain number of 64 bits gives, if the next word names a file
 abbrev pub sized : List ℕ → List ℕ → (ℕ → Asked) → Option Asked
 sized number swap asked = if is_path swap then option_map asked (plain_number (2 ^ 64) number) else None
 
@@ -116,7 +116,7 @@ import_of [] = None
 import_of (swap ∷ []) = over_file swap (import swap)
 import_of (swap ∷ more ∷ words) = None
 
--- what a command asks for with its own words
+-- what a command asks for with the words that follow it
 abbrev pub command_by : List ℕ → List (List ℕ) → Option Asked
 command_by command words =
     if pointwise nat_eq command (codes "inspect") then inspect_of words
@@ -128,7 +128,7 @@ command_by command words =
     else if pointwise nat_eq command (codes "import") then import_of words
     else None
 
--- What a plain list of words asks for: the program's name, a command, and that command's own. No other list parses.
+-- What a plain list of words asks for: the program's name, a command, and its own words. No other list parses.
 abbrev pub command_of : List (List ℕ) → Option Asked
 command_of [] = None
 command_of (name ∷ []) = None

@@ -8,7 +8,7 @@ use std::alloc::Global;
 /// What the program is asked to do.
 #[derive(Clone, Copy)]
 pub enum Command<'a> {
-    /// Tells what a block says of the swap area whose header it is.
+    /// Prints what a block says of the swap area whose header it is.
     Inspect {
         /// The number of the block, the area's offset in its file.
         offset: u32,
@@ -17,27 +17,27 @@ pub enum Command<'a> {
     },
     /// Lets the machine of a memory dump hibernate.
     Hibernate {
-        /// Which pages its image has.
+        /// Which pages the image has.
         format: Format,
-        /// How many saveable page frames are wanted at most.
+        /// The most saveable page frames wanted.
         size: Option<u64>,
         /// The path of the swap file or block device.
         swap: &'a str,
     },
     /// Resumes the image of a swap area into the machine of a memory dump.
     Resume {
-        /// Whether the image is to be of the machine's own kernel.
+        /// Whether the image must be of the machine's own kernel.
         check: IdentCheck,
         /// The path of the swap file or block device.
         swap: &'a str,
     },
     /// Plays a script over a disk in memory, and prints each reply.
     Replay,
-    /// Plays the run that is made from a number, 1 to 2000, over a disk in memory, and sums its replies up.
+    /// Plays the run that is made from a number, 1 to 2000, over a disk in memory, and sums up its replies.
     Drill(u32),
     /// Writes the image of a memory dump as a stream of bytes.
     Export,
-    /// Writes such a stream into a swap area as an image.
+    /// Writes a stream of bytes into a swap area as an image.
     Import {
         /// The path of the swap file or block device.
         swap: &'a str,
@@ -50,8 +50,8 @@ impl<'a> Command<'a> {
     ghost use Rattle.swsusp_words.specs.Refused.{IsRefusedBy, SaysWords};
     ghost use Rattle.swsusp_words.specs.Words.{command_of};
 
-    /// The command of a plain list of words, of which the first is the program's name. No other list parses, also where
-    /// clap takes it: clap's options may stand anywhere, and its numbers may have a sign and zeros before them.
+    /// Reads the command of a plain list of words, whose first is the program's name. No other list parses, even if
+    /// clap takes it: clap's options may stand anywhere, and its numbers may have a sign and leading zeros.
     pub fn parse(alloc: Global, words: &'a [String]) -> Result<Command<'a>, Unparsed>
         ensures asks { IfOk result (λ command. command_of (map string_bytes words.now) ≡ Some (asked_by command)) }
         ensures number { IfOk result HasNumber }

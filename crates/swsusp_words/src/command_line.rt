@@ -7,7 +7,7 @@ use crate::details;
 use clap::{Arg, ArgAction, Command, value_parser};
 use std::alloc::{AllocError, Global};
 
-/// The commands as clap knows them.
+/// Makes the commands as clap knows them.
 pub(crate) fn command_line<'a>(alloc: Global) -> Result<Command<'a>, AllocError>
     ensures { IfOk result (IsApp swsusp_app) }
 {
@@ -24,7 +24,7 @@ pub(crate) fn command_line<'a>(alloc: Global) -> Result<Command<'a>, AllocError>
     with_streams(alloc, playing)
 }
 
-/// The program with the commands over a swap area.
+/// Adds the commands over a swap area to the program.
 fn with_areas<'a>(alloc: Global, program: Command<'a>) -> Result<Command<'a>, AllocError>
     ensures { (app : App) → IsApp app program.entry → IfOk result (IsApp (with_areas app)) }
 {
@@ -34,7 +34,7 @@ fn with_areas<'a>(alloc: Global, program: Command<'a>) -> Result<Command<'a>, Al
         .subcommand(resumption(alloc)?)
 }
 
-/// The program with those that play a run.
+/// Adds the commands that play a run to the program.
 fn with_players<'a>(alloc: Global, program: Command<'a>) -> Result<Command<'a>, AllocError>
     ensures { (app : App) → IsApp app program.entry → IfOk result (IsApp (with_players app)) }
 {
@@ -43,7 +43,7 @@ fn with_players<'a>(alloc: Global, program: Command<'a>) -> Result<Command<'a>, 
         .subcommand(drill(alloc)?)
 }
 
-/// The program with those over a stream.
+/// Adds the commands over a stream to the program.
 fn with_streams<'a>(alloc: Global, program: Command<'a>) -> Result<Command<'a>, AllocError>
     ensures { (app : App) → IsApp app program.entry → IfOk result (IsApp (with_streams app)) }
 {
@@ -52,7 +52,7 @@ fn with_streams<'a>(alloc: Global, program: Command<'a>) -> Result<Command<'a>, 
         .subcommand(importation(alloc)?)
 }
 
-/// A command with its name, what it does, and the rest of its help.
+/// Makes a command with its name, what it does, and the rest of its help.
 fn named<'a>(alloc: Global, name: &'a str, about: &'a str, details: &'a str) -> Command<'a>
     ensures { IsApp (new_app name.entry.now) result }
 {

@@ -1,4 +1,4 @@
-//! The command line of `swsusp`: what a list of words asks for, and what is said of one that asks for nothing.
+//! The command line of `swsusp`: what a list of words asks for, and the message for one that asks for nothing.
 #![tactic(auto)]
 
 mod command;

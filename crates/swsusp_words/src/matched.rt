@@ -8,7 +8,7 @@ use clap::ArgMatches;
 use page_core::Format;
 use plain_machine::IdentCheck;
 
-/// The command that matches ask for.
+/// Returns the command that matches ask for.
 pub(crate) fn matched<'a>(matches: &ArgMatches<'a>) -> Option<Command<'a>>
     ensures { AnswersTo (asked_in (subcommand_rows_of matches.now)) result }
 {

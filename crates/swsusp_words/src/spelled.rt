@@ -13,7 +13,7 @@ use itoa::Buffer;
 use page_core::Format;
 use plain_machine::IdentCheck;
 
-/// The command that matches of words ask for, if the words are its plain ones.
+/// Returns the command that matches of words ask for, if the words are its plain ones.
 pub(crate) fn plain<'a>(matches: &ArgMatches<'a>, words: &[String]) -> Option<Command<'a>>
     ensures asks { IfSome result (λ command. command_of (map string_bytes words.now) ≡ Some (asked_by command)) }
     ensures found { (asked : Asked) → asked_in (subcommand_rows_of matches.now) ≡ Some asked →
@@ -27,7 +27,7 @@ pub(crate) fn plain<'a>(matches: &ArgMatches<'a>, words: &[String]) -> Option<Co
     }
 }
 
-/// Whether words, of which the first is the program's name, are the plain words of a command.
+/// Returns whether words, the first of which is the program's name, are the plain words of a command.
 fn is_spelled(command: &Command<'_>, words: &[String]) -> bool
     ensures { IsTrue result ↔ (command_of (map string_bytes words.now) ≡ Some (asked_by command.now)) }
 {

@@ -1,7 +1,7 @@
 ghost use Rattle.std.specs.Prelude.{◌≡◌, ◌↔◌, IsTrue, map, string_bytes};
 ghost use Rattle.swsusp_words.specs.Words.{is_path};
 
-/// Whether a word names a file: it isn't empty and doesn't begin with a dash.
+/// Returns whether a word names a file: it isn't empty and doesn't begin with a dash.
 pub fn is_path(word: &str) -> bool
     ensures { result ≡ is_path word.now }
 {
@@ -11,7 +11,7 @@ pub fn is_path(word: &str) -> bool
     }
 }
 
-/// Whether words are these texts, one by one.
+/// Returns whether words are these texts, one by one.
 pub fn equal(words: &[String], texts: &[&str]) -> bool
     ensures { IsTrue result ↔ (map string_bytes words.now ≡ map (λ text. text.now) texts.now) }
 {

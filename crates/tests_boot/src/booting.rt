@@ -7,8 +7,8 @@ use sig_header::{area_page, mark};
 /// The state fits a caller's buffer of 16 KiB.
 const _: () = prove!(size_of::<Resume>() <= 16384);
 
-/// The area of the image: its header in block 0, the map in block 1, the info page in block 2, the numbers of page
-/// frames 3 and 9 in block 3 and their pages in blocks 4 and 5, whose bytes are all 7 and all 8.
+/// Makes the area of the image: its header in block 0, the map in block 1, the info page in block 2, the numbers of
+/// page frames 3 and 9 in block 3 and their pages in blocks 4 and 5, whose bytes are all 7 and all 8.
 fn image() -> [Page; 6] {
     let mut map = Page::zero();
     map.set_word(0, 2);
@@ -38,7 +38,7 @@ fn image() -> [Page; 6] {
     ]
 }
 
-/// What a boot came to: its last call, and the page frames that got a page, with its first byte.
+/// The outcome of a boot: its last call, and the page frames that got a page, with its first byte.
 #[derive(Clone, Copy, Debug, PartialEq, Eq)]
 struct Outcome {
     end: Call,
@@ -69,7 +69,7 @@ fn serve(call: Call, disk: &mut [Page; 6], buffer: &mut Page, told: &mut Outcome
     }
 }
 
-/// A boot that makes at most so many calls, and whose call number `failing` fails.
+/// Runs a boot that makes at most `most` calls, and whose call number `failing` fails.
 fn boot(disk: &mut [Page; 6], most: u32, failing: u32) -> Outcome {
     let memory = [FrameRange { start: 1, end: 16 }];
     let mut told = Outcome {
@@ -115,7 +115,7 @@ fn each_page_is_handed_out_once(rt: HostRuntime) {
     );
 }
 
-/// Which of two boots got pages, of which the first is broken off after so many calls.
+/// Returns which of two boots got pages if the first is broken off after `most` calls.
 fn pages_of_two(most: u32) -> (bool, bool) {
     let mut disk = image();
     let first = boot(&mut disk, most, NO_FAILURE);
@@ -132,7 +132,7 @@ fn one_of_two_boots_gets_pages(rt: HostRuntime) {
     }
 }
 
-/// How a boot ends whose call of this number, from 0 on, fails.
+/// Returns how a boot ends if call number `failing`, from 0 on, fails.
 fn end_of(failing: u32) -> Call {
     boot(&mut image(), 100, failing).end
 }

@@ -1,6 +1,6 @@
 use crc32::crc32_le;
 
-// The values are zlib's `crc32(bytes, seed ^ 0xffffffff) ^ 0xffffffff`, which takes its inversions out. CRC-32 of RFC
+// The values are zlib's `crc32(bytes, seed ^ 0xffffffff) ^ 0xffffffff`, which cancels its inversions. CRC-32 of RFC
 // 1952 (0xcbf43926) begins with all bits set, and ends with an inversion.
 #[test]
 fn checksums_are_those_of_zlib(rt: HostRuntime) {

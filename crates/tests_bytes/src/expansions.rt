@@ -4,7 +4,7 @@ use lzo::{Kind, LzoFault, expand};
 use std::process::Abort;
 use std::test::Fail;
 
-// Each stream here is one that liblzo2 2.10 and the kernel's lzo1x_decompress_safe expand to the same bytes.
+// liblzo2 2.10 and the kernel's lzo1x_decompress_safe expand each stream here to the same bytes.
 
 /// Asserts that a stream expands to these bytes, and that the output after them stays.
 fn assert_expands(rt: &impl Abort, input: &[u8], wanted: &[u8])
@@ -30,7 +30,7 @@ fn each_short_instruction(rt: HostRuntime) {
     assert_expands(&rt, b"\x15abcd\x25\x0b\0xyz\x11\0\0", b"abcdbcdbcdbxyz");
 }
 
-/// What a stream expands to: its length, and its last 14 bytes.
+/// Expands a stream. Returns the length of what it expands to, and the last 14 bytes of that.
 fn end_of(input: &[u8], output: &mut [u8]) -> (Result<usize, LzoFault>, [u8; 14]) {
     let told = expand(input, output);
     let mut end = [0; 14];
@@ -42,7 +42,7 @@ fn end_of(input: &[u8], output: &mut [u8]) -> (Result<usize, LzoFault>, [u8; 14]
     (told, end)
 }
 
-/// A stream: four literals, a match of the last one, of as many zero bytes of length as are told, and then these bytes.
+/// Makes a stream: four literals, a match of the last one with `zeros` zero bytes in its length, and then `rest`.
 fn far(alloc: std::alloc::Global, zeros: usize, rest: &[u8]) -> Result<Vec<u8>, Fail> {
     let mut input = Vec::from_slice(alloc, b"\x15abcd\x20")?;
     for _ in 0..zeros {
@@ -52,9 +52,9 @@ fn far(alloc: std::alloc::Global, zeros: usize, rest: &[u8]) -> Result<Vec<u8>, 
     Ok(input)
 }
 
-// A zero byte is 255 more. 0 0 0 0 D D S S after four literals: three bytes from 2051 before the end. 0 0 1 L L L L L
-// with all bits D set: 16384 before the end, which no end marker is. 0 0 0 1 H L L L: lengths of 5 in the bits and of
-// 266 after them, from 16,391 and 32,837 before the end.
+// A zero byte adds 255. 0 0 0 0 D D S S after four literals: three bytes from 2051 before the end. 0 0 1 L L L L L with
+// all bits D set: 16384 before the end, which isn't an end marker. 0 0 0 1 H L L L: lengths of 5 in the bits and of 266
+// after them, from 16,391 and 32,837 before the end.
 #[test]
 fn each_instruction_from_afar(rt: HostRuntime) -> Result<(), Fail> {
     let alloc = rt.alloc();
@@ -100,7 +100,7 @@ fn each_instruction_from_afar(rt: HostRuntime) -> Result<(), Fail> {
     Ok(())
 }
 
-// A zero byte is 255 more: 3 + 15 + 255 + 5 literals.
+// A zero byte adds 255: 3 + 15 + 255 + 5 literals.
 #[test]
 fn a_long_run_of_literals(rt: HostRuntime) {
     let mut input = [b'q'; 284];
@@ -110,7 +110,7 @@ fn a_long_run_of_literals(rt: HostRuntime) {
     assert_eq!(rt; end_of(&input, &mut output), (Ok(278), [b'q'; 14]));
 }
 
-/// Asserts that a stream has this fault in an output of 8 bytes, and that this is what is written before.
+/// Asserts that a stream has this fault with an output of 8 bytes, which then holds `wanted`.
 fn assert_fails(rt: &impl Abort, input: &[u8], kind: Kind, at: usize, wanted: &[u8; 8]) {
     let mut output = [0xaa; 8];
     let told = expand(input, &mut output);
@@ -122,7 +122,7 @@ const NOTHING: &[u8; 8] = b"\xaa\xaa\xaa\xaa\xaa\xaa\xaa\xaa";
 const LITERALS: &[u8; 8] = b"abc\xaa\xaa\xaa\xaa\xaa";
 
 // An input that ends in literals, in an instruction and in a length of zero bytes; an output without room; a match from
-// before the begin. 0x12 says a length of 4 at the distance that ends the stream. lzorle1x_1_compress writes 17 and 1
+// before the start. 0x12 gives a length of 4 at the distance that ends the stream. lzorle1x_1_compress writes 17 and 1
 // first.
 #[test]
 fn each_fault(rt: HostRuntime) {

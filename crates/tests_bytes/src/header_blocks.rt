@@ -17,7 +17,7 @@ fn a_mark_has_the_bytes_of_the_kernel(rt: HostRuntime) {
     );
 }
 
-/// Why an area with last slot 3000, the bad ones 5 and 9 and one field changed is none.
+/// Returns the fault of an area with last slot 3000, bad slots 5 and 9, and one field changed.
 fn fault_of(at: usize, value: u32) -> Option<AreaFault>
     requires { at ≤ 4092 }
 {

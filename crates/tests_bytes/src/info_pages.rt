@@ -2,13 +2,13 @@ ghost use Rattle.std.specs.Prelude.{◌≡◌};
 
 use image_header::{Field, Ident, Info, check, decode, encode};
 
-/// How many bytes a name has.
+/// The bytes of a name.
 const NAME_SIZE: usize = 65;
 
 // The scripted machine's names: sysname, nodename, release, version, machine, domainname.
 const NAMES: [&str; 6] = ["Linux", "machine", "6.1.0", "#1", "plain", "(none)"];
 
-/// The info page of an image of eight pages.
+/// Returns the info page of an image of eight pages.
 fn first_image() -> Info
     ensures { result.pages ≡ 10 }
 {
@@ -47,8 +47,8 @@ fn the_first_image_is_written(rt: HostRuntime) {
     assert_eq!(rt; decode(&page), first_image());
 }
 
-// The nodename is compared by no resume. Of several fields that differ the version code comes first, then the names in
-// this order.
+// No resume compares the nodename. Of several fields that differ, the version code comes first, then the names in this
+// order.
 #[test]
 fn the_first_field_that_differs(rt: HostRuntime) {
     let own = first_image().ident;

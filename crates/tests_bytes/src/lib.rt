@@ -1,5 +1,5 @@
-//! Tests of the crates that read and write bytes: header blocks, info pages and map pages, and what compressed images
-//! need, LZO1X streams and their checksum. Each is a worked example from outside, which shows that the definitions are
+//! Tests of the crates that read and write bytes: header blocks, info pages and map pages, and the LZO1X streams and
+//! checksum that compressed images need. Each is a worked example from outside, which shows that the definitions are
 //! those of Linux.
 #![tactic(auto)]
 

@@ -7,7 +7,7 @@ use page_core::Page;
 use std::test::Fail;
 use zones::Zones;
 
-/// The last words of page frames 1 to 3.
+/// Returns the last words of page frames 1 to 3.
 fn last_words(frames: &Frames) -> [u64; 3] {
     if frames.len() < 4 {
         return [0; 3];
@@ -49,7 +49,7 @@ fn one_frame_at_a_time(rt: HostRuntime) -> Result<(), Fail> {
     Ok(())
 }
 
-/// Adds a page frame that is valid.
+/// Adds a valid page frame to the set.
 fn put(set: &mut Bitmap, zones: &Zones, p: u32)
     requires { set.old.zones ≡ zones.now }
     ensures { set.new.zones ≡ zones.now }

@@ -1,6 +1,6 @@
--- A page that went out comes back, over hibernations: until another page goes out to its slot, whatever may be brought
--- in from there is that page. In Linux: swap_writepage and swap_readpage, mm/page_io.c; an image leaves the slots of
--- the tasks as they are (alloc_swapdev_block, kernel/power/swap.c).
+-- A page that went out comes back, over hibernations: until another page goes out to its slot, no other page can be
+-- brought in from there. In Linux: swap_writepage and swap_readpage, mm/page_io.c; an image leaves the slots of the
+-- tasks as they are (alloc_swapdev_block, kernel/power/swap.c).
 use Rattle.std.specs.Prelude.{◌≡◌, ◌≢◌, ◌<◌, ◌≤◌, ℕ, List, length, Some, IsSome, Contains, ⊤}
 use Rattle.definitions.specs.Disk as disk
 use Rattle.definitions.specs.Tables.{frame}
@@ -19,7 +19,7 @@ use Rattle.plain_machine.specs.declared.reply.Reply.TheVariants as reply
 abbrev pub HasNoOther : ℕ → List ℕ → SlotPages → Type 0
 HasNoOther s page slots = (x : List ℕ) → slots s ≡ Some x → x ≡ page
 
--- so it is in an image that is there, surely or perhaps, which is one of the machine's own
+-- the same in an image that exists, surely or perhaps, which is one of the machine's own
 abbrev pub HoldsNoOther : ℕ → List ℕ → Held → Type 0
 HoldsNoOther s page nothing = ⊤
 HoldsNoOther s page (sure (own i)) = HasNoOther s page i.slots
@@ -32,7 +32,7 @@ FindsNoOther s page not_yet = ⊤
 FindsNoOther s page (found_own i) = HasNoOther s page i.slots
 FindsNoOther s page (found_other v) = ⊥
 
--- Of all that may come back in this state, by a task's in or a resume, slot s has no page or this one.
+-- Whatever comes back in this state, by a task's in or a resume, slot s has no page or this one.
 abbrev pub KeepsPage : ℕ → List ℕ → State → Type 0
 KeepsPage s page (off held kept) = HoldsNoOther s page held
 KeepsPage s page (on a) = HasNoOther s page a.slots × HoldsNoOther s page a.held
@@ -45,17 +45,17 @@ KeepsPage s page (waking i held a k) = HasNoOther s page a.slots × HoldsNoOther
 KeepsPage s page (loading load k) = HoldsNoOther s page load.held × FindsNoOther s page load.found
 KeepsPage s page (asleep i held a) = HasNoOther s page a.slots × HoldsNoOther s page held
 
--- a machine boots with fresh memory, as in each script
+-- each boot is with fresh memory, as in each script
 abbrev pub BootsAfresh : Event → Type 0
 BootsAfresh (event.Boot Kept) = ⊥
 BootsAfresh _ = ⊤
 
--- no page goes out to slot s meanwhile
+-- each boot is with fresh memory, and no page goes out to slot s meanwhile
 abbrev pub AreQuiet : ℕ → List Event → List Reply → Type 0
 AreQuiet s events replies =
     ((e : Event) → Contains events e → BootsAfresh e) × ((r : Reply) → Contains replies r → r ≢ reply.Written s)
 
--- The page that a task brought in from slot s into page frame p is this one.
+-- A task brought this page in from slot s into page frame p.
 pub record BringsIn (page : List ℕ) (p : ℕ) (b : State) : Type 0 where
   pub after : Running
   pub runs : b ≡ on after

@@ -1,4 +1,4 @@
--- Where a command's status is 0: its answer is whole, and it is the one of success.
+-- A command whose status is 0 has answered completely, and with success.
 use Rattle.std.specs.Prelude.{◌≡◌, ℕ, Option, Ok}
 use Rattle.page_core.specs.declared.format.Format.{Format}
 use Rattle.dump_file.specs.Dump.{DumpValue}
@@ -39,7 +39,7 @@ pub record HasRestored {X : Type 0} (D : Ghosts X) (before after : X) (check : I
   pub printed : IsPrinted (dump_bytes dump.hw loaded.shown.frames) x.out x'.out
 
 -- An export handed out the image of a dump, an import took the stream of an image into its area, a replay printed its
--- whole run, a drill summed its own up, and an inspection read its block: each text was taken by out, and is flushed.
+-- whole run, a drill summed up its run, and an inspection read its block: out took each text, and it is flushed.
 
 pub record HasExported (x x' : View) (status : Status) : Type 0 where
   pub dump : DumpValue

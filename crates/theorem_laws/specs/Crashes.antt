@@ -9,16 +9,16 @@ use Rattle.plain_machine.specs.Stands.{IsSameOrTakenBack}
 use Rattle.plain_machine.specs.UsableArea.{HasOriginal}
 use Rattle.command_laws.specs.Hibernations.{IsUnmarkedOrHolds, image_to_save, machine_to_save}
 
--- A crash since a hibernation began leaves no image that is marked and doesn't hold the image of the dump that was
--- read, over a disk that had one image, which wasn't marked. `left` is what the input had, `told` what the disk held,
--- and `since` what a crash may leave.
+-- Over a disk that had one image, which wasn't marked, a crash since a hibernation began leaves a disk that isn't
+-- marked, or that holds the image of the dump that was read. `left` is the rest of the input, `told` what the disk
+-- held, and `since` what a crash may leave.
 pub record SavesInside (f : Format) (size : Option ℕ) (left : Option (List ℕ)) (told : Option disk.Content)
     (since : disk.DiskImage → Type 0) : Type 0 where
   pub leaves : (bytes : List ℕ) (dump : DumpValue) (v w : disk.DiskImage) → left ≡ Some bytes →
       dump_of bytes ≡ Ok dump → told ≡ Some (disk.settled v) → (Marked dump.hw v → ⊥) →
       since w → IsUnmarkedOrHolds dump.hw (image_to_save dump.hw (machine_to_save dump.hw dump.memory size v) f) w
 
--- A crash since a resume began leaves the disk as it was, but for block(0), which is as it was or taken back.
+-- A crash since a resume began leaves the disk as it was, except that block(0) may have its mark taken back.
 pub record LoadsInside (left : Option (List ℕ)) (told : Option disk.Content)
     (since : disk.DiskImage → Type 0) : Type 0 where
   pub leaves : (bytes : List ℕ) (dump : DumpValue) (v w : disk.DiskImage) → left ≡ Some bytes →

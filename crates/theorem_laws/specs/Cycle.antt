@@ -20,6 +20,6 @@ pub record GivesBack (h : Hardware) (saved : Running) (frames : Memory) (now : d
       EachImage now (λ v. disk.block v (block_of_slot h s) ≡ page)
   pub gone : EachImage now (λ v. Marked h v → ⊥)
 
--- the loader has room: for each page with data, for their list, and one page frame more
+-- the loader has room for each page with data, for the list of them, and for one page frame more
 abbrev pub HasRoomFor : Hardware → Memory → Image → Type 0
 HasRoomFor h loader i = need (d_of i) ≤ length (left_free h loader Table)

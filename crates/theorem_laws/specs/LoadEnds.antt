@@ -22,8 +22,8 @@ NamesTooFewFrames r = (free : ℕ) × (need : ℕ) × (r ≡ reply.TooFewLoaderF
 abbrev pub NamesBytes : Hardware → Load → disk.DiskImage → Reply → Type 0
 NamesBytes h load v r = (r ≡ reply.NoImage) ⊎ Contains (trace h load.dump v load.loader load.check) r
 
--- The disk whose bytes those are, of a resume that has made so many steps: up to the second one the disk v as it
--- reads; after that one the disk that it read, where it found another machine's image there.
+-- The disk whose bytes a resume has found after the given number of steps: before the second step, the disk v as it
+-- reads; from then on the disk that was read, if that has another machine's image.
 abbrev pub disk_found : disk.DiskImage → Found → ℕ → disk.DiskImage
 disk_found v found zero = v
 disk_found v found (suc zero) = v
@@ -31,7 +31,7 @@ disk_found v not_yet (suc (suc k)) = v
 disk_found v (found_own i) (suc (suc k)) = v
 disk_found v (found_other w) (suc (suc k)) = w
 
--- it goes on, or ends so
+-- the resume goes on, or ends in one of these ways
 abbrev pub NamesItsEnd : Hardware → disk.DiskImage → Load → ℕ → Reply → Type 0
 NamesItsEnd h v load k r =
     IsLoading r ⊎ AnswersResumed r ⊎ EndsInFault r ⊎ NamesTooFewFrames r

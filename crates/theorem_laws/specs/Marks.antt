@@ -1,4 +1,4 @@
--- An image is there just where the mark is: the signature of block(0) alone says whether. In Linux: swsusp_check,
+-- An image exists if and only if the disk is marked: only the signature of block(0) says so. In Linux: swsusp_check,
 -- kernel/power/swap.c.
 use Rattle.std.specs.Prelude.{◌↔◌, ⊤}
 use Rattle.definitions.specs.Disk as disk
@@ -7,8 +7,8 @@ use Rattle.plain_machine.specs.Machine.{Hardware}
 use Rattle.plain_machine.specs.Stands.{EachImage}
 use Rattle.plain_machine.specs.State.{Held, nothing, sure, maybe, own, other}
 
--- Of what a cut may leave of the disk, by what the machine's state says of an image there: none is marked, or each is,
--- or just those that hold the machine's image. What is perhaps another machine's may be either.
+-- Which of the images that a cut may leave are marked, by what the state says of an image: none, all, or exactly those
+-- that hold the machine's image. If the image may be another machine's, either is possible.
 abbrev pub IsThereWhereMarked : Hardware → disk.Content → Held → Type 0
 IsThereWhereMarked h c nothing = EachImage c (λ v. Marked h v → ⊥)
 IsThereWhereMarked h c (sure (own i)) = EachImage c (λ v. Marked h v × Holds h v i)

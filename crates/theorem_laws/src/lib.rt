@@ -1,2 +1,2 @@
-//! What follows of the theorem of `swsusp`: a law for each promise that a reader may look for.
+//! What follows from the theorem of `swsusp`: a law for each promise that a reader may look for.
 #![tactic(auto)]

@@ -39,16 +39,16 @@ HasTables Asleep = ⊥
 HasTables Waking = ⊥
 HasTables Loading = ⊥
 
--- a machine that sleeps or wakes has an image, perhaps, on its disk
+-- a machine that sleeps or wakes perhaps has an image on its disk
 abbrev pub IsDown : Core → Type 0
 IsDown Asleep = ⊤
 IsDown Waking = ⊤
 IsDown _ = ⊥
 
--- Memory has the machine's page frames, and hibernation and resume are over its zones, with room for its slots. A
--- machine that runs, hibernates, settles, sleeps or wakes can run, and where an image is held, perhaps too, or it
--- sleeps or wakes, the header block is one of the disk's. A hibernation, a settling, a waking or a resume can make its
--- next step.
+-- Memory has the machine's page frames. Hibernation and resume are over its zones, and the free runs have room for its
+-- slots. A machine that runs, hibernates, settles, sleeps or wakes can run. The header block is one of the disk's if
+-- such a machine holds an image, surely or perhaps, or if it sleeps or wakes. A hibernation, a settling, a waking or a
+-- resume can make its next step.
 pub record IsKept (a : Inside) : Type 0 where
   pub size : length a.frames ≡ top a.machine.hw.zones
   pub zones : a.hib.snapshot.zones ≡ a.machine.hw.zones

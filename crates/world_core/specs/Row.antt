@@ -48,14 +48,14 @@ abbrev pub RestartsAt : Event → Option disk.Content → Option disk.Content �
 RestartsAt (event.Cut pick) before now = disk.Changes disk.Restarts before now
 RestartsAt _ before now = ⊤
 
--- the disk's number of blocks is taken at an accepted boot or resume alone
+-- the disk's number of blocks is taken only at an accepted boot or resume
 abbrev pub blocks_after : Event → Reply → ℕ → ℕ → ℕ
 blocks_after (event.Boot from) (reply.More k of) disk_blocks kept = disk_blocks
 blocks_after (event.Resume loader check) (reply.Loading k) disk_blocks kept = disk_blocks
 blocks_after _ _ disk_blocks kept = kept
 
--- A resume that ends has left just Restored, free page frames too, after either loader; and a machine that runs has the
--- area of the header block, bad slots included.
+-- A resume that ends leaves exactly Restored, free page frames included, with either loader. A machine that then runs
+-- has the area of the header block, bad slots included.
 abbrev pub Restores : Event → World → World → Reply → Option disk.Content → Option disk.Content → Type 0
 Restores (event.Step actor.Core) old new (reply.Resumed n) before now =
     (c : disk.Content) → before ≡ Some c → (load : Load) (k : ℕ) → StandsFor old c (loading load k) →
@@ -71,8 +71,8 @@ BootsMark h (reply.Booted image) v = (image ≡ true) ↔ Marked h v
 BootsMark h (reply.ReadFault left) v = ⊤
 BootsMark h _ v = ⊥
 
--- There exactly when: a boot that ends says that an image is there just where block(0) of the disk v is marked, and so
--- does the second step of a resume.
+-- An image is reported if and only if one exists: the last step of a boot says that an image exists if and only if
+-- block(0) of the disk v is marked, and so does the second step of a resume.
 pub record TellsMark (w : World) (r : Reply) (v : disk.DiskImage) : Type 0 where
   pub boots : (from : BootFrom) → w.core ≡ BootSynced from → BootsMark (hardware_of w) r v
   pub finds : w.core ≡ Loading → w.load.stage ≡ stage.Find → FindsMark (hardware_of w) r v
@@ -85,9 +85,9 @@ TellsImage _ w r told = ⊤
 abbrev pub CallsAtMostOnce : Event → Reply → ℕ → ℕ → Type 0
 CallsAtMostOnce e r before now = (now ≡ before) ⊎ (IsStep e × (r ≢ reply.Idle) × (now ≡ disk.raised before))
 
--- An event that this world refuses. What begins an operation is refused by every reply but the count of its steps, a
--- step by `idle`, and what a task asks where the machine doesn't run, or by a reply that refuses it. A cut and an arm
--- are never refused.
+-- An event that this world refuses. A begin or a shrink is refused by every reply but the one that accepts it, a step
+-- by `idle`, and a task's request by a reply that refuses it, or if the machine doesn't run. A cut and an arm are never
+-- refused.
 abbrev pub IsRefused : Event → World → Reply → Type 0
 IsRefused (event.Boot from) w r = IsRefusedWith r
 IsRefused (event.Hibernate format) w r = IsRefusedWith r
@@ -101,35 +101,35 @@ IsRefused (event.Task t o) w r = (w.core ≢ Running) ⊎ IsRefusal r
 IsRefused (event.Cut pick) w r = ⊥
 IsRefused (event.Arm first count pick) w r = ⊥
 
--- It changes nothing, whatever the disk tells: neither the machine with its numbers, nor what it is at, nor a page
--- frame, free ones too.
+-- The event changes nothing, whatever the disk tells: neither the machine with its numbers, nor its activity, nor any
+-- page frame, free ones included.
 pub record ChangesNothing (old new : World) : Type 0 where
   pub machine : new.machine ≡ old.machine
   pub frames : new.frames ≡ old.frames
   pub core : new.core ≡ old.core
 
--- What a step of a hibernation or a settling leaves of the page frames: those that aren't free stay, the slot table
--- included but for the image's slots. Where it ends with nothing held these are given back, and where an image may be
--- there all is as it was.
+-- What a step of a hibernation or a settling does to the page frames. Those that aren't free stay, the slot table
+-- included except for the image's slots. If the operation ends with nothing on the disk, those slots are given back;
+-- while an image may exist, all stay as they were.
 pub record KeepsUsedFrames (old new : World) (r : Reply) : Type 0 where
   pub used : KeepsUsed (hardware_of old) old.frames new.frames
   pub given : change_of r old.hib.stage ≡ gives → seen_frames (hardware_of old) new.frames ≡ new.frames
   pub unsure : change_of r old.hib.stage ≡ stays → new.frames ≡ old.frames
 
--- A shrinking has made just the dropped page frames free, and tells how many they are, and how many saveable ones are
+-- Shrinking has made exactly the dropped page frames free. It reports how many they are, and how many saveable ones are
 -- left.
 pub record HasDropped (h : Hardware) (want : ℕ) (old : Memory) (dropped left : ℕ) (new : Memory) : Type 0 where
   pub frames : new ≡ drop_memory h old want
   pub dropped_is : dropped ≡ length (dropped_by h old want)
   pub left_is : left ≡ length (saveable h new)
 
--- What a step of a waking leaves of the page frames, whatever the disk tells: once the machine runs the image's slots
--- are given back, and before all is as it was.
+-- What a step of a waking does to the page frames, whatever the disk tells: once the machine runs, the image's slots
+-- are given back; until then all stay as they were.
 abbrev pub WakesWith : World → World → Reply → Type 0
 WakesWith old new reply.Woken = new.frames ≡ seen_frames (hardware_of old) old.frames
 WakesWith old new _ = new.frames ≡ old.frames
 
--- What an event leaves of memory, whatever the disk tells.
+-- What an event does to memory, whatever the disk tells.
 abbrev pub LeavesMemory : Event → World → Reply → World → Type 0
 LeavesMemory (event.Hibernate format) old r new = KeepsUsed (hardware_of old) old.frames new.frames
 LeavesMemory (event.Suspend format) old r new = KeepsUsed (hardware_of old) old.frames new.frames

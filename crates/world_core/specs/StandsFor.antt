@@ -40,7 +40,7 @@ hardware_of w = w.machine.hw
 abbrev pub blocks_of : World → ℕ
 blocks_of w = w.machine.blocks
 
--- whether a world is off, and whether memory is still a dump's then
+-- whether a world is off, and whether its memory is then still a dump's
 abbrev pub is_off : Core → Bool
 is_off (Off keeps) = true
 is_off _ = false
@@ -52,7 +52,7 @@ abbrev pub keeps_dump : Core → Bool
 keeps_dump (Off keeps) = keeps
 keeps_dump _ = false
 
--- one that hibernates, settles, wakes or resumes has a step to make
+-- a world that hibernates, settles or resumes has a step to make
 pub record IsBusyIn (w : World) : Type 0 where
   pub hibernates : w.core ≡ Hibernating → IsBusy w.hib
   pub resumes : w.core ≡ Loading → resume_ready.IsBusy w.load
@@ -67,7 +67,7 @@ activity_of Asleep hib load waker = sleeps
 activity_of Waking hib load waker = waking.activity_of waker
 activity_of Loading hib load waker = resumption.activity_of load
 
--- the block that is kept, the page frames of the copies, and the pages that wait, by page frame
+-- the block that is kept, the page frames of the copies, and the waiting pages by page frame
 abbrev pub header_of : Core → Hib → Load → Waker → List ℕ
 header_of Hibernating hib load waker = hibernation.header_at hib.stage
 header_of Waking hib load waker = waking.header_at waker.stage
@@ -78,7 +78,7 @@ abbrev pub copies_of : Core → Hib → List ℕ
 copies_of Hibernating hib = hib.snapshot.copies
 copies_of _ hib = []
 
--- loader and check of a resume
+-- the loader and the check of a resume
 abbrev pub resume_of : Core → Load → Option (Loader × IdentCheck)
 resume_of Loading load = Some (load.loader, load.check)
 resume_of _ load = None
@@ -87,8 +87,8 @@ abbrev pub loaded_of : Core → Memory → Load → List (ℕ × List ℕ)
 loaded_of Loading frames load = zip load.waiting.originals (waiting_pages frames load.waiting)
 loaded_of _ frames load = []
 
--- What is shown between two calls of the disk: a hibernation keeps a block and has copies, a settling or a waking keeps
--- one, a resume keeps one and has a loader, a check and loaded pages.
+-- What is shown between two calls of the disk. A hibernation keeps a block and has copies; a settling or a waking keeps
+-- a block; a resume keeps a block, and has a loader, a check and loaded pages.
 abbrev pub shown_at : Core → Machine → Memory → Hib → Load → Waker → WorldView
 shown_at core machine frames hib load waker = record {
   activity = activity_of core hib load waker;
@@ -106,14 +106,14 @@ shown_at core machine frames hib load waker = record {
 abbrev pub shown : World → WorldView
 shown w = shown_at w.core w.machine w.frames w.hib w.load w.waker
 
--- A world and its disk stand for a state. Where the world hibernates, its numbers and sets are those of the state's
--- image; where it resumes, its resume is the state's.
+-- A world and its disk stand for a state. If the world hibernates, its numbers and sets are those of the state's image;
+-- if it resumes, its resume is the state's.
 pub record StandsFor (w : World) (c : disk.Content) (a : State) : Type 0 where
   pub stands : Stands (hardware_of w) (shown w) c a
   pub image : IsOfState (hardware_of w) w.frames w.hib a
   pub resume : resume_row.IsOfState w.machine w.frames w.load c a
 
--- what a world is at by what its hibernation, settling or resume is at
+-- what a world is at, by the activity of its hibernation, settling, waking or resume
 abbrev pub core_at : Activity → Core
 core_at rests = Off false
 core_at (hibernates suspends k) = Hibernating
@@ -124,7 +124,7 @@ core_at sleeps = Asleep
 core_at (loads k) = Loading
 core_at _ = Running
 
--- and after this reply to the begin or a step of a hibernation or a settling, or of a resume
+-- what it is at by the phase of a hibernation or a settling, and after this reply to its begin or a step of it
 abbrev pub core_in : Phase → Core
 core_in under_way = Hibernating
 core_in runs_on = Running
@@ -148,8 +148,9 @@ abbrev pub IsKeptDump : Hardware → Memory → Bool → Option Memory → Type 
 IsKeptDump h frames keeps None = keeps ≡ false
 IsKeptDump h frames keeps (Some m) = (keeps ≡ true) × (frames ≡ m) × Fits h m
 
--- A new world is off, and memory is a dump's or nothing. Over a disk with one image it stands for a machine with
--- nothing held where that isn't marked, else with another's image, if taking the mark back leaves none.
+-- A new world is off, and its memory is a dump's or nothing. Over a disk with one image it stands for a machine with
+-- nothing held if that image isn't marked, else for one that holds another's image, if taking the mark back leaves
+-- none.
 pub record IsNewWorld (h : Hardware) (kept : Option Memory) (w : World) : Type 0 where
   pub hardware : hardware_of w ≡ h
   pub at_rest : IsOff w

@@ -23,15 +23,15 @@ use Rattle.world_core.specs.declared.world.Core.TheVariants.{Running}
 use Rattle.world_core.specs.World.{World}
 use Rattle.world_core.specs.StandsFor.{hardware_of, blocks_of}
 
--- block b of a disk of so many blocks, zeros where it isn't below them
+-- block b of a disk of `blocks` blocks, or zeros if the disk has no such block
 abbrev pub header_at : ℕ → ℕ → disk.DiskImage → List ℕ
 header_at b blocks v = if nat_lt b blocks then disk.block v b else zero_page
 
--- what a header block says of the area, taken back where it is marked
+-- what a header block says of the area, once a mark on it is taken back
 abbrev pub area_kind_of : List ℕ → AreaKind
 area_kind_of header = if is_image (area_kind header) then area_kind (taken_back header) else area_kind header
 
--- why the area can't be used, from fresh memory or a dump's
+-- why the area can't be used, with fresh memory or a dump's
 abbrev pub fault_at_start : BootFrom → Hardware → ℕ → Memory → AreaKind → Option NoSwap
 fault_at_start Fresh h blocks m kind = kind_or_fit_fault h blocks kind
 fault_at_start Kept h blocks m kind = first_fault (kind_or_fit_fault h blocks kind) (bad_set_fault h m kind)
@@ -41,7 +41,7 @@ abbrev pub memory_at_start : BootFrom → Hardware → Result Area NoSwap → Me
 memory_at_start Fresh h area m = with_each_entry (slot_of_area area) (range_with_len 0 h.slots) h.slot_table m
 memory_at_start Kept h area m = m
 
--- A world runs as a header block says: its area and held are those of the block, and no task has an unfinished
+-- A world runs as a header block says: its area and `held` are those of the block, and no task has an unfinished
 -- operation.
 pub record IsStarted (from : BootFrom) (old new : World) (header : List ℕ) (image : Bool) : Type 0 where
   pub marked : image ≡ is_image (area_kind header)

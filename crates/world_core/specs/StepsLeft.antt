@@ -1,5 +1,5 @@
--- How many steps of the core a world has left at most, by what it is at alone: so also over a disk that tells nothing
--- of its content.
+-- The most steps of the core that a world has left. The number depends only on its activity, so it also holds over a
+-- disk that doesn't tell its content.
 use Rattle.std.specs.Prelude.{◌≡◌, ◌≢◌, ◌⊎◌, ◌<◌, ◌≤◌, ℕ, ⊤}
 use Rattle.plain_machine.specs.declared.event.Actor.TheVariants as actor
 use Rattle.plain_machine.specs.declared.event.Event.{Event}
@@ -29,14 +29,14 @@ steps_left_in _ hib load waker = 0
 abbrev pub steps_left : World → ℕ
 steps_left w = steps_left_in w.core w.hib w.load w.waker
 
--- A step of the core leaves fewer steps, unless it says that there was none to make. One of a resume that neither goes
--- on nor ends it, since the image was refused or a call failed, leaves the machine off.
+-- A step of the core leaves fewer steps, unless it says that there was none to make. If a step neither continues a
+-- resume nor ends it, because the image was refused or a call failed, it leaves the machine off.
 pub record ComesCloser (old : World) (r : Reply) (new : World) : Type 0 where
   pub fewer : r ≢ reply.Idle → steps_left new < steps_left old
   pub idle : r ≡ reply.Idle → steps_left new ≡ 0
   pub stopped : old.core ≡ Loading → ((k : ℕ) → r ≢ reply.Loading k) → ((n : ℕ) → r ≢ reply.Resumed n) → IsOff new
 
--- A resume that has begun has 65,800 steps at most: two before its mark is found, two that take it back, and those that
+-- A resume that has begun has at most 65,800 steps: two before the mark is found, two that take it back, and those that
 -- read the longest chain.
 abbrev pub Ends : Event → World → Reply → World → Type 0
 Ends (event.Step actor.Core) old r new = ComesCloser old r new

@@ -6,7 +6,7 @@ use Rattle.resume_core.specs.declared.load.Load.{Load}
 use Rattle.sleep_core.specs.declared.waker.Waker.{Waker}
 use Rattle.world_core.specs.declared.world.Core.{Core}
 
--- what it is but for its page frames, those, its hibernation, its resume and its waking, and what it is at
+-- the machine without its page frames, the page frames, its hibernation, its resume, its waking, and what it is at
 pub record World : Type 0 where
   pub machine : Machine
   pub frames : Memory

@@ -38,7 +38,7 @@ impl World {
     ghost use Rattle.protocol_laws.specs.Rows.{TellsNewFault};
     ghost use Rattle.world_core.specs.Started.{IsStarted};
 
-    /// Begins a boot, on a disk of so many blocks.
+    /// Begins a boot on a disk of `blocks` blocks.
     pub(crate) fn boot(&mut self, blocks: u32, from: BootFrom) -> Reply
         ensures row { (c : Content) → Simulates (event.Boot from) self.old self.new result c c }
         ensures cause { TellsNewFault result → ⊥ }
@@ -64,7 +64,7 @@ impl World {
         matches!(self.core, Core::Off { .. })
     }
 
-    /// Begins a boot, from fresh memory or the dump's that is kept.
+    /// Begins a boot, from fresh memory or from the dump's that is kept.
     fn begin_boot(&mut self, blocks: u32, from: BootFrom) -> Reply
         requires off { IsOff self.old }
         requires dump { asks_dump_to_boot from ≡ true → keeps_dump self.old.core ≡ true }
@@ -75,7 +75,7 @@ impl World {
         ensures reply { result ≡ reply.More 0 2 }
     {
         let hw = self.machine.hw;
-        // The machine is one.
+        // Reading a field tells the prover the hardware invariant.
         let _zones = hw.zones();
         set_memory(&mut self.frames, &hw, from);
         self.machine.blocks = blocks;
@@ -83,7 +83,7 @@ impl World {
         Reply::More { k: 0, of: 2 }
     }
 
-    /// The first step of a boot: after it the disk has one content.
+    /// Makes the first step of a boot, a sync. If it succeeds, the disk has one image.
     pub(crate) fn sync_for_boot<D: Disk>(&mut self, disk: &mut D, from: BootFrom) -> Reply
         requires begun { self.old.core ≡ core.BootBegun from }
         ensures row { SimulatesWhereTold (event.Step actor.Core) self.old self.new result (D.content disk.old)
@@ -110,7 +110,7 @@ impl World {
         }
     }
 
-    /// The second step of a boot: the header block says whether an image is there, and which area.
+    /// Makes the second step of a boot: the header block says whether an image exists, and which area the disk has.
     pub(crate) fn finish_boot<D: Disk>(&mut self, disk: &mut D, from: BootFrom) -> Reply
         requires synced { self.old.core ≡ core.BootSynced from }
         requires blocks { D.block_count disk.old ≡ blocks_of self.old }
@@ -139,7 +139,7 @@ impl World {
         }
     }
 
-    /// Runs, as the header block says. Whether it is marked.
+    /// Starts the machine from its header block; returns whether that carries an image mark.
     fn start(&mut self, header: &Page, from: BootFrom) -> bool
         requires synced { self.old.core ≡ core.BootSynced from }
         requires on_disk { is_image (area_kind header.now) ≡ true →
@@ -163,14 +163,14 @@ impl World {
     }
 }
 
-/// Whether a boot is from a dump's memory.
+/// Returns whether a boot starts from a dump's memory.
 fn asks_dump(from: BootFrom) -> bool
     ensures { result ≡ asks_dump_to_boot from }
 {
     matches!(from, BootFrom::Kept)
 }
 
-/// Sets fresh memory, or leaves the dump's.
+/// Sets fresh memory, or leaves the dump's as it is.
 fn set_memory(frames: &mut Frames, hw: &Hardware, from: BootFrom)
     requires { length frames.old ≡ top hw.now.zones }
     ensures fresh { from ≡ BootFrom.Fresh → frames.new ≡ fresh_frames hw.now }
@@ -183,7 +183,8 @@ fn set_memory(frames: &mut Frames, hw: &Hardware, from: BootFrom)
     }
 }
 
-/// The area that is used from now on. Fresh memory gets its slot table, a dump's is to have just the area's bad slots.
+/// Returns the area that is used from now on. Fresh memory gets its slot table; a dump's must have exactly the
+/// area's bad slots.
 fn area_at_start(
     frames: &mut Frames,
     hw: &Hardware,
@@ -209,7 +210,7 @@ fn area_at_start(
     }
 }
 
-/// A dump's memory can use an area only if just its bad slots are bad.
+/// Returns the area for a dump's memory, which can use it only if its bad slots are exactly the area's.
 fn with_bad_slots(
     frames: &Frames,
     hw: &Hardware,
@@ -228,14 +229,14 @@ fn with_bad_slots(
     }
 }
 
-/// Whether a header block carries the mark of an image.
+/// Returns whether a header block carries the mark of an image.
 fn is_image(kind: &AreaKind) -> bool
     ensures { result ≡ is_image kind.now }
 {
     matches!(kind, AreaKind::Image(_))
 }
 
-/// Reads the header block into a page of zeros. One that isn't below the disk's blocks counts as zeros, and isn't read.
+/// Reads the header block into a page of zeros. A block that isn't one of the disk's counts as zeros, and isn't read.
 fn read_header<D: Disk>(disk: &mut D, block: u64, into: &mut Page) -> Result<(), Failed>
     requires { into.old ≡ zero_page }
     ensures beyond { D.block_count disk.old ≤ block → into.new ≡ zero_page }

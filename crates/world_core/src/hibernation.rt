@@ -46,7 +46,7 @@ impl World {
         }
     }
 
-    /// Begins it.
+    /// Begins a hibernation or a settling.
     fn begin_job(&mut self, job: Job) -> Reply
         requires running { self.old.core ≡ core.Running }
         ensures row { (c : Content) → Simulates (event_of job) self.old self.new result c c }
@@ -56,7 +56,7 @@ impl World {
         ensures refused { IsRefused (event_of job) self.old result → ChangesNothing self.old self.new }
         ensures memory { KeepsUsed (hardware_of self.old) self.old.frames self.new.frames }
     {
-        // The machine is one.
+        // Reading a field tells the prover the hardware invariant.
         let _zones = self.machine.hw.zones();
         let reply = self
             .hib
@@ -65,7 +65,7 @@ impl World {
         reply
     }
 
-    /// Makes the next step of it.
+    /// Makes the next step of a hibernation or a settling.
     pub(crate) fn step_hibernation<D: Disk>(&mut self, disk: &mut D) -> Reply
         requires hibernates { self.old.core ≡ core.Hibernating }
         requires blocks { D.block_count disk.old ≡ blocks_of self.old }
@@ -82,7 +82,7 @@ impl World {
         ensures blocks { blocks_of self.new ≡ blocks_of self.old }
         ensures memory { KeepsUsedFrames self.old self.new result }
     {
-        // Each page frame has 4096 bytes.
+        // Reading the length tells the prover that each page frame has 4096 bytes.
         let _ = self.frames.len();
         let reply = self
             .hib
@@ -92,7 +92,7 @@ impl World {
     }
 }
 
-/// What the machine is at after this reply to the begin or a step of a hibernation or a settling.
+/// Returns what the machine is at after this reply to the begin or a step of a hibernation or a settling.
 fn core_after(reply: &Reply) -> Core
     ensures { result ≡ core_told reply.now }
 {

@@ -14,7 +14,7 @@ impl World {
     ghost use Rattle.world_core.specs.StandsFor.{hardware_of, blocks_of, IsOff, keeps_dump};
     ghost use Rattle.world_core.specs.Row.{SimulatesWhereTold};
 
-    /// The power is cut: the disk is left with one of its images, and memory is gone, but for a dump's that is kept.
+    /// Cuts the power: the disk is left with one of its images, and memory is lost, except a dump's that is kept.
     /// Never refused.
     pub(crate) fn cut<D: Disk>(&mut self, disk: &mut D, pick: u64) -> Reply
         ensures row { SimulatesWhereTold (event.Cut pick) self.old self.new result (D.content disk.old)
@@ -36,7 +36,7 @@ impl World {
         Reply::WasCut
     }
 
-    /// Calls of the disk are to fail. Nothing else changes. Never refused.
+    /// Arms the disk, so that calls of it fail. Nothing else changes. Never refused.
     pub(crate) fn arm<D: Disk>(&self, disk: &mut D, first: u32, count: u32, pick: u64) -> Reply
         ensures row { SimulatesWhereTold (event.Arm first count pick) self.now self.now result (D.content disk.old)
             (D.content disk.new) }
@@ -53,7 +53,7 @@ impl World {
         Reply::Done
     }
 
-    /// Whether memory is still a dump's.
+    /// Returns whether memory is still a dump's.
     pub(crate) fn keeps_dump(&self) -> bool
         ensures { result ≡ keeps_dump self.now.core }
     {

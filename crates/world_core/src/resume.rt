@@ -21,7 +21,7 @@ impl World {
     ghost use Rattle.world_core.specs.Row.{SimulatesWhereTold, Simulates, CallsAtMostOnce, IsRefused, ChangesNothing};
     ghost use Rattle.world_core.specs.Row.{Restores, TellsImage, blocks_after};
 
-    /// Begins a resume, on a disk of so many blocks, if the machine is off. A dump's loader is the memory that is kept.
+    /// Begins a resume on a disk of `blocks` blocks, if the machine is off. A dump's loader is the memory that is kept.
     pub(crate) fn resume(&mut self, blocks: u32, loader: Loader, check: IdentCheck) -> Reply
         ensures row { (c : Content) → Simulates (event.Resume loader check) self.old self.new result c c }
         ensures cause { TellsNewFault result → ⊥ }
@@ -42,7 +42,7 @@ impl World {
         self.begin_resume(blocks, loader, check)
     }
 
-    /// Begins it. For a dump's loader memory is the dump's.
+    /// Begins the resume. For a dump's loader, memory is the dump's.
     fn begin_resume(&mut self, blocks: u32, loader: Loader, check: IdentCheck) -> Reply
         requires off { IsOff self.old }
         requires dump { asks_dump_to_load loader ≡ true → keeps_dump self.old.core ≡ true }
@@ -61,7 +61,7 @@ impl World {
         reply
     }
 
-    /// Makes the next step of it.
+    /// Makes the next step of a resume.
     pub(crate) fn step_resume<D: Disk>(&mut self, disk: &mut D) -> Reply
         requires resumes { self.old.core ≡ core.Loading }
         requires blocks { D.block_count disk.old ≡ blocks_of self.old }
@@ -86,14 +86,14 @@ impl World {
     }
 }
 
-/// Whether the loader is a dump's.
+/// Returns whether the loader is a dump's.
 fn asks_dump(loader: &Loader) -> bool
     ensures { result ≡ asks_dump_to_load loader.now }
 {
     matches!(loader, Loader::Table)
 }
 
-/// What the machine is at after this reply to the begin or a step of a resume with this loader.
+/// Returns what the machine is at after this reply to the begin or a step of a resume with this loader.
 fn core_after(reply: &Reply, loader: &Loader) -> Core
     ensures is { result ≡ core_resumed loader.now reply.now }
     ensures off { ((k : ℕ) → reply.now ≢ Reply.Loading k) → ((n : ℕ) → reply.now ≢ Reply.Resumed n) →

@@ -12,7 +12,7 @@ use machine::Hardware;
 use plain_machine::Reply;
 use reclaim::shrink;
 
-/// A page frame of a table has so many entries of 4 bytes.
+/// The number of entries, of 4 bytes each, in a page frame of a table.
 const ENTRIES: u32 = 1024;
 
 // Dropping cached page frames, so that an image becomes as small as is wanted (own policy; in Linux
@@ -24,7 +24,7 @@ impl World {
     ghost use Rattle.world_core.specs.StandsFor.{hardware_of, blocks_of};
     ghost use Rattle.world_core.specs.Row.{Simulates, IsRefused, ChangesNothing, LeavesMemory};
 
-    /// Drops cached page frames until so many saveable ones are left, if the machine runs.
+    /// Drops cached page frames until `want` saveable ones are left, if the machine runs.
     pub(crate) fn shrink(&mut self, want: u64) -> Reply
         ensures row { (c : Content) → Simulates (event.Shrink want) self.old self.new result c c }
         ensures cause { TellsNewFault result → ⊥ }
@@ -46,7 +46,7 @@ impl World {
         }
     }
 
-    /// Drops them, if no task has an unfinished operation.
+    /// Drops the cached page frames, if no task has an unfinished operation.
     fn drop_cached(&mut self, want: u64) -> Reply
         requires running { self.old.core ≡ core.Running }
         ensures row { (c : Content) → Simulates (event.Shrink want) self.old self.new result c c }
@@ -65,7 +65,7 @@ impl World {
     }
 }
 
-/// Drops cached page frames of a machine, but for those of its tables: how many, and how many saveable ones are left.
+/// Drops cached page frames of a machine, except those of its tables. Returns how many, and how many saveable are left.
 fn drop_of(frames: &mut Frames, hw: &Hardware, want: u64) -> (u32, u32)
     requires size { length frames.old ≡ top hw.now.zones }
     ensures hardware { IsHardware hw.now }
@@ -76,7 +76,7 @@ fn drop_of(frames: &mut Frames, hw: &Hardware, want: u64) -> (u32, u32)
     ensures pages { All IsPage frames.old }
     ensures len { length frames.new ≡ length frames.old }
 {
-    // Each page frame has 4096 bytes.
+    // Reading the length tells the prover that each page frame has 4096 bytes.
     let _ = frames.len();
     let zones = hw.zones();
     let tables = [

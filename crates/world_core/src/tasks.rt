@@ -23,7 +23,7 @@ impl World {
     ghost use Rattle.world_core.specs.Row.{Restores, TellsImage};
     ghost use Rattle.world_core.specs.StepsLeft.{Ends};
 
-    /// What a task asks for: it is refused where the machine doesn't run.
+    /// Does what a task asks for; refuses it if the machine doesn't run.
     pub(crate) fn task(&mut self, t: u32, op: TaskOp) -> Reply
         requires task { IsTask t }
         requires op { IsFittingOp op }
@@ -46,7 +46,7 @@ impl World {
         }
     }
 
-    /// What a task asks of a machine that runs.
+    /// Does what a task asks of a machine that runs.
     fn ask(&mut self, t: u32, op: TaskOp) -> Reply
         requires running { self.old.core ≡ core.Running }
         requires task { IsTask t }
@@ -58,12 +58,12 @@ impl World {
         ensures core { self.new.core ≡ self.old.core }
         ensures refused { IsRefused (event.Task t op) self.old result → ChangesNothing self.old self.new }
     {
-        // The machine is one.
+        // Reading a field tells the prover the hardware invariant.
         let _zones = self.machine.hw.zones();
         self.machine.task(&mut self.frames, &mut self.runs, t, op)
     }
 
-    /// The step that ends a task's operation, if the machine runs and the task has one.
+    /// Makes the step that ends a task's operation, if the machine runs and the task has one.
     pub(crate) fn step_task<D: Disk>(&mut self, disk: &mut D, t: u32) -> Reply
         requires task { IsTask t }
         requires blocks { IsOff self.old ⊎ (D.block_count disk.old ≡ blocks_of self.old) }
@@ -96,7 +96,7 @@ impl World {
         matches!(self.core, Core::Running)
     }
 
-    /// The step that ends a task's operation.
+    /// Makes the step that ends a task's operation.
     fn finish<D: Disk>(&mut self, disk: &mut D, t: u32) -> Reply
         requires task { IsTask t }
         requires running { self.old.core ≡ core.Running }
@@ -111,7 +111,7 @@ impl World {
         ensures core { self.new.core ≡ self.old.core }
         ensures works { result ≢ reply.Idle }
     {
-        // The machine is one.
+        // Reading a field tells the prover the hardware invariant.
         let _zones = self.machine.hw.zones();
         self.machine
             .finish(&mut self.frames, &mut self.runs, disk, t)

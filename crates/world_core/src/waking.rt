@@ -55,7 +55,8 @@ impl World {
         Reply::More { k: 0, of: 3 }
     }
 
-    /// Makes the next step of it. When the mark is taken back the image's slots are given back, and the machine runs.
+    /// Makes the next step of waking. Once the mark is taken back, the image's slots are given back and the machine
+    /// runs.
     pub(crate) fn step_wake<D: Disk>(&mut self, disk: &mut D) -> Reply
         requires wakes { self.old.core ≡ core.Waking }
         requires blocks { D.block_count disk.old ≡ blocks_of self.old }
@@ -72,9 +73,9 @@ impl World {
         ensures blocks { blocks_of self.new ≡ blocks_of self.old }
         ensures memory { WakesWith self.old self.new result }
     {
-        // Each page frame has 4096 bytes.
+        // Reading the length tells the prover that each page frame has 4096 bytes.
         let _ = self.frames.len();
-        // The machine is one.
+        // Reading a field tells the prover the hardware invariant.
         let _zones = self.machine.hw.zones();
         let reply = self.waker.step(&self.machine, disk);
         leave(&mut self.machine, &mut self.frames, &mut self.runs, &reply);
@@ -83,8 +84,8 @@ impl World {
     }
 }
 
-/// What a step of waking leaves of the machine by its reply: once it runs it holds nothing, and the image's slots are
-/// given back.
+/// Changes the machine by the reply to a step of waking: once it runs, it holds nothing and the image's slots are given
+/// back.
 fn leave(machine: &mut Machine, frames: &mut Frames, runs: &mut FreeRuns, reply: &Reply)
     requires table { LiesIn frames.old (slot_table_of machine.old.hw) }
     requires matches { Matches frames.old (slot_table_of machine.old.hw) runs.old }
@@ -98,7 +99,7 @@ fn leave(machine: &mut Machine, frames: &mut Frames, runs: &mut FreeRuns, reply:
     }
 }
 
-/// What the machine is at after this reply to a step of waking.
+/// Returns what the machine is at after this reply to a step of waking.
 fn core_after(reply: &Reply) -> Core
     ensures { result ≡ core_woken reply.now }
 {

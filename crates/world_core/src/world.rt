@@ -93,7 +93,7 @@ impl World {
         World::over(alloc, dump.hw, dump.frames, true)
     }
 
-    /// A machine that is off, with these page frames, which are a dump's or not.
+    /// A machine that is off, with these page frames. `keeps_dump` says whether they are a dump's.
     fn over(
         alloc: Global,
         hw: Hardware,
@@ -154,7 +154,7 @@ impl World {
         self.machine.blocks
     }
 
-    /// What happens to the machine, and what it answers. It makes at most one call of the disk.
+    /// Lets an event happen to the machine, and returns its reply. It makes at most one call of the disk.
     pub fn event<D: Disk>(&mut self, disk: &mut D, event: Event) -> Reply
         requires fits { IsFitting event }
         requires blocks { IsOff self.old ⊎ (D.block_count disk.old ≡ blocks_of self.old) }

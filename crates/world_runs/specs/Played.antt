@@ -11,11 +11,11 @@ use Rattle.world_core.specs.World.{World}
 use Rattle.world_runs.specs.Turns.{AreCounted, steps_of}
 use Rattle.world_runs.specs.Turns.{Situation, AreTurns, IsLeftInside, end_of}
 
--- a world with its disk, which stand for this state
+-- the situation of a world with its disk, which stand for this state
 abbrev pub situation_of : World → disk.Content → State → Situation
 situation_of w c a = record { state = a; shown = shown w; content = c }
 
--- The disk's clock hasn't fallen, and what a crash since an earlier moment may leave now it might have left before, or
+-- The disk's clock hasn't gone back. What a crash since an earlier moment may leave now, it might have left before or
 -- inside one of the events.
 pub record Passes (p : Situation) (after : List Situation) (before now : ℕ)
     (past since : ℕ → disk.DiskImage → Type 0) : Type 0 where
@@ -35,8 +35,8 @@ pub record Leads {X : Type 0} (D : Ghosts X) (h : Hardware) (p : Situation) (eve
   pub time : IsTrue (D.tells_moments before) →
       Passes p through (D.moment before) (D.moment after) (D.left_since before) (D.left_since after)
 
--- The events gave these replies. The disk was called at most once a step event, and its count of faults allows for the
--- replies; and whatever state world and disk stood for, the events are a run from it.
+-- The events got these replies. The disk was called at most once for each step event, and its count of faults allows
+-- for the replies; and whatever state world and disk stood for, the events are a run from it.
 pub record Played {X : Type 0} (D : Ghosts X) (old new : World) (events : List Event) (replies : List Reply)
     (before after : X) : Type 0 where
   pub hardware : hardware_of new ≡ hardware_of old

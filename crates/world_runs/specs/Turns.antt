@@ -1,4 +1,4 @@
--- A machine's run over a disk: its events, each with its reply, and what there is between them. It has no counterpart
+-- A machine's run over a disk: its events, each with its reply, and the situations between them. It has no counterpart
 -- in Linux.
 use Rattle.std.specs.Prelude.{◌≡◌, ◌⊎◌, ℕ, List, [], ◌∷◌, Contains, ⊤, ◌≤◌, length, filter, Bool, true, false}
 use Rattle.definitions.specs.Disk as disk
@@ -16,17 +16,17 @@ use Rattle.protocol_laws.specs.Rows.{IsSameArea, LeavesBlock, LeavesHeader, Leav
 use Rattle.resume_core.specs.Restored.{restored_by}
 use Rattle.definitions.specs.Disk.{HasRisen}
 
--- What there is between two events: the state of the plain machine, what is shown of the world, and what the disk
+-- The situation between two events: the state of the plain machine, what is shown of the world, and what the disk
 -- holds.
 pub record Situation : Type 0 where
   pub state : State
   pub shown : WorldView
   pub content : disk.Content
 
--- The plain machine gives this reply to the event, over the disk as it reads then, and what is there after it stands
--- for the state that it goes on to. The disk is whole, the area on it stays, no other block is written than the event
--- may write, a hibernation that has ended has left its image, and block(0) is left so. Where a resume has ended the
--- page frames are those that it restores.
+-- The plain machine gives this reply to the event, over the disk as it reads then, and goes on to a state that the new
+-- situation stands for. The disk is whole, its area stays, and no block is written but those that the event may write.
+-- A hibernation that has ended has left its image, and block(0) is as LeavesHeader says. After a resume that has ended,
+-- the page frames are those that it restores.
 pub record Turn (h : Hardware) (e : Event) (r : Reply) (p q : Situation) : Type 0 where
   pub step : Step h (disk.as_it_reads p.content) p.state e r q.state
   pub stands : Stands h q.shown q.content q.state
@@ -38,7 +38,7 @@ pub record Turn (h : Hardware) (e : Event) (r : Reply) (p q : Situation) : Type 
   pub restored : (load : Load) (k n : ℕ) → e ≡ event.Step actor.Core → p.state ≡ loading load k →
       r ≡ reply.Resumed n → q.shown.frames ≡ restored_by h load
 
--- Event by event, from the situation p on, through these situations.
+-- The events, one by one, lead from the situation p through these situations.
 abbrev pub AreTurns : Hardware → Situation → List Event → List Reply → List Situation → Type 0
 AreTurns h p [] [] [] = ⊤
 AreTurns h p (e ∷ events) (r ∷ replies) (q ∷ after) = Turn h e r p q × AreTurns h q events replies after
@@ -49,7 +49,7 @@ abbrev pub end_of : Situation → List Situation → Situation
 end_of p [] = p
 end_of p (q ∷ after) = end_of q after
 
--- A crash inside one of the events may leave this image: it has each sector from what the disk held before the event or
+-- A crash inside one of the events may leave this image: each of its sectors is as the disk held it before the event or
 -- after it.
 abbrev pub IsLeftInside : Situation → List Situation → disk.DiskImage → Type 0
 IsLeftInside p [] w = ⊥
@@ -57,7 +57,7 @@ IsLeftInside p (q ∷ after) w = disk.IsMixture p.content q.content w ⊎ IsLeft
 
 -- How often a disk is called over some events, and how often it fails. It has no counterpart in Linux.
 
--- how many events are steps, each of which may call the disk once
+-- whether an event is a step, which may call the disk once
 abbrev pub is_step : Event → Bool
 is_step (event.Step x) = true
 is_step _ = false
@@ -65,8 +65,8 @@ is_step _ = false
 abbrev pub steps_of : List Event → ℕ
 steps_of events = length (filter is_step events)
 
--- The disk's count of faults goes from `low` to `high` without falling, and rises at each reply that tells of a call
--- that failed at its event: such replies are at most as many as it rose by, its last value aside.
+-- The disk's count of faults goes from `low` to `high` without falling, and rises at each reply that reports a failed
+-- call at its event: there are at most as many such replies as the count rose by, unless it reached its greatest value.
 abbrev pub AreCounted : List Reply → ℕ → ℕ → Type 0
 AreCounted [] low high = low ≤ high
 AreCounted (r ∷ replies) low high =

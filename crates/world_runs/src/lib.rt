@@ -1,3 +1,3 @@
-//! Runs of a world over a disk: its events, each with its reply, and what there is between them. Definitions and laws,
+//! Runs of a world over a disk: its events, each with its reply, and the situations between them. Definitions and laws,
 //! and no code.
 #![tactic(auto)]

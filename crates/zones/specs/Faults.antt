@@ -1,4 +1,4 @@
--- Which lists of pairs `of` refuses, and with which fault.
+-- Which lists of pairs `of` refuses, and the fault of each.
 use Rattle.std.specs.Prelude.{◌≡◌, ℕ, ◌-◌, ◌<◌, ◌≤◌, List, [], length}
 use Rattle.std.specs.List.{AllWithin, AllAdjacentBelow}
 use Rattle.definitions.specs.Zones.{zone_at, zone_end}
@@ -13,8 +13,8 @@ pub record IsFirst (zones : List (ℕ × ℕ)) (j : ℕ) : Type 0 where
   pub each : AllWithin IsZone zones 0 j
   pub apart : AllAdjacentBelow LiesBelow zones j
 
--- The fault of a list of pairs, each where none before it in this table applies: no zone, more than 16, or the first
--- zone that has no page frame, passes page frame number 65535, or doesn't lie above the zone before.
+-- The fault of a list of pairs, which is the first that applies in this table: no zone, more than 16, or the first zone
+-- that has no page frame, passes page frame number 65535, or doesn't lie above the zone before.
 abbrev pub Refuses : List (ℕ × ℕ) → ZoneFault → Type 0
 Refuses zones NoZone = zones ≡ []
 Refuses zones TooMany = 16 < length zones
@@ -23,7 +23,7 @@ Refuses zones (TooLarge at) = IsFirst zones at × (0 < (zone_at zones at).1) × 
 Refuses zones (Overlap at) =
     IsFirst zones at × IsZone (zone_at zones at) × (0 < at) × ((zone_at zones at).0 < zone_end (zone_at zones (at - 1)))
 
--- zone `at`, where the zones before it are in order and end at `above`, has this fault
+-- zone `at` has this fault, given that the zones before it are in order and end at `above`
 abbrev pub HasFault : ℕ → ℕ × ℕ → ℕ → ZoneFault → Type 0
 HasFault at zone above NoZone = ⊥
 HasFault at zone above TooMany = ⊥

@@ -1,15 +1,15 @@
--- How the zones are kept: a fixed array of pairs, those past the last zone (0, 0).
+-- How the zones are kept: in a fixed array of pairs, with (0, 0) past the last zone.
 use Rattle.std.specs.Prelude.{◌≡◌, ℕ, ◌-◌, List, ◌++◌, length, take, drop, replicate}
 use Rattle.std.proofs.Common.{sym, ap, ap₂, ◌∙◌}
 use Rattle.std.proofs.lemmas.List.{take-append-drop}
 use Rattle.definitions.specs.ZoneFacts.{AreZones}
 use Rattle.zones.specs.declared.Zones.TheInside.{Inside}
 
--- the zones, as `of` took them
+-- the zones that `of` was given
 abbrev pub kept_zones : Inside → List (ℕ × ℕ)
 kept_zones z = take z.len z.pairs
 
--- well formed, and past the last zone only pairs of zeros
+-- the zones are well formed, with only pairs of zeros past the last one
 pub record IsKept (z : Inside) : Type 0 where
   pub zones : AreZones (kept_zones z)
   pub whole : length (kept_zones z) ≡ z.len

@@ -1,6 +1,6 @@
 use thiserror::Error;
 
-/// Why a list of pairs is no list of zones. `at` is the index of the first zone at fault.
+/// Why a list of pairs isn't a list of zones. `at` is the index of the first zone at fault.
 #[derive(Clone, Copy, Debug, PartialEq, Eq, Error)]
 pub enum ZoneFault {
     #[error("no zone")]

@@ -13,10 +13,10 @@ ghost use Rattle.zones.specs.Faults.{HasFault};
 pub use fault::ZoneFault;
 use std::marker::Model;
 
-/// At most this many zones.
+/// The most zones that a machine may have.
 const MOST_ZONES: usize = 16;
 
-/// Page frame numbers are below this.
+/// The bound of page frame numbers, which are all below it.
 const NUMBER_LIMIT: u32 = 65536;
 
 /// The zones of a machine: the runs of page frame numbers that it has, in ascending order (struct zone).
@@ -47,7 +47,7 @@ impl Zones {
     ghost use Rattle.zones.specs.Faults.{Refuses};
     ghost use Rattle.zones.specs.declared.fault.ZoneFault.{ZoneFault};
 
-    /// The zones of a list of pairs: the first number and the count of each.
+    /// Makes the zones of a list of pairs: the first number and the count of each.
     pub fn of(pairs: &[(u32, u32)]) -> Result<Zones, ZoneFault>
         ensures ok { IsOk result ↔ AreZones pairs.now }
         ensures zones { IfOk result (λ z. z ≡ pairs.now) }
@@ -71,7 +71,7 @@ impl Zones {
         })
     }
 
-    /// Whether the machine has a page frame with this number (pfn_valid).
+    /// Returns whether the machine has a page frame with this number (pfn_valid).
     pub fn valid(&self, p: u32) -> bool
         ensures valid { IsTrue result ↔ Contains (numbers self.now) p }
         ensures zones { AreZones self.now }
@@ -81,7 +81,7 @@ impl Zones {
             .any(|&(start, count)| start <= p && p - start < count)
     }
 
-    /// How many page frame numbers are valid.
+    /// Returns how many page frame numbers are valid.
     pub fn count(&self) -> u32
         ensures count { result ≡ length (numbers self.now) }
         ensures zones { AreZones self.now }
@@ -93,7 +93,7 @@ impl Zones {
         total
     }
 
-    /// One above the highest valid page frame number.
+    /// Returns one more than the highest valid page frame number.
     pub fn top(&self) -> u32
         ensures top { result ≡ top self.now }
         ensures zones { AreZones self.now }
@@ -102,7 +102,7 @@ impl Zones {
         start + count
     }
 
-    /// The least valid page frame number at or above `p`.
+    /// Returns the least valid page frame number at or above `p`.
     pub fn next(&self, p: u32) -> Option<u32>
         ensures next { result ≡ first_from (numbers self.now) p }
         ensures zones { AreZones self.now }
@@ -115,7 +115,7 @@ impl Zones {
         None
     }
 
-    /// The first number and the count of zone `j`, counted from 0. `None` where there are at most `j` zones.
+    /// Returns the first number and the count of zone `j`, from 0, or `None` if there are at most `j` zones.
     pub fn zone(&self, j: u32) -> Option<(u32, u32)>
         ensures zone { result ≡ slice_get self.now j }
         ensures zones { AreZones self.now }
@@ -123,7 +123,7 @@ impl Zones {
         self.as_slice().get(j as usize).copied()
     }
 
-    /// The pairs of the zones: the first number and the count of each.
+    /// Returns the pairs of the zones: the first number and the count of each.
     pub fn as_slice(&self) -> &[(u32, u32)]
         ensures pairs { result.now ≡ self.now }
         ensures zones { AreZones self.now }
@@ -132,7 +132,7 @@ impl Zones {
     }
 }
 
-/// The page frame number after zone `at`, where that zone is in order. The zones before it end at `above`.
+/// Returns the page frame number after zone `at`, if that zone is in order. The zones before it end at `above`.
 fn end_of(at: u32, zone: (u32, u32), above: u32) -> Result<u32, ZoneFault>
     ensures sound { IfOk result (λ end. IsZone zone × (above ≤ zone.0) × (end ≡ zone_end zone)) }
     ensures fault { IfErr result (HasFault at zone above) }
