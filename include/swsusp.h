@@ -1,13 +1,13 @@
 /*
  * libswsusp: the image of a hibernated Linux, for a boot loader or an initramfs.
  *
- * The library makes no call of its own and takes no memory: it says which call of the disk comes next, and is told how
- * that went. All it keeps lies in the caller's struct swsusp_resume, struct swsusp_discard or struct swsusp_check,
- * which may lie anywhere, be copied and be moved. Two threads may not use one such struct at once. libswsusp(3)
- * describes each function.
+ * The library makes no call of its own and takes no memory: it says which call of the disk comes next, and the caller
+ * reports how that call went. All it keeps lies in the caller's struct swsusp_resume, struct swsusp_discard or struct
+ * swsusp_check, which may lie anywhere, be copied and be moved. Two threads may not use one such struct at once.
+ * libswsusp(3) describes each function.
  *
- * Each pointer must hold what it says, and no two of a call may overlap; none may be NULL. Every other argument is
- * tested, and refused with a code.
+ * Each pointer must hold what it says, and no two pointers of a call may overlap; none may be NULL. Every other
+ * argument is tested, and refused with a code.
  */
 #ifndef SWSUSP_H
 #define SWSUSP_H
@@ -19,10 +19,10 @@
 extern "C" {
 #endif
 
-/* Blocks of the disk, page frames and the caller's buffer have so many bytes. */
+/* The number of bytes of a block of the disk, of a page frame and of the caller's buffer. */
 #define SWSUSP_PAGE 4096
 
-/* How many words of 64 bits a check of a disk of so many blocks is lent. */
+/* How many words of 64 bits the caller lends to a check of a disk of `blocks` blocks. */
 #define SWSUSP_WORDS(blocks) ((size_t)(blocks) / 64 + 1)
 
 /* How many findings of one call are kept. */
@@ -32,19 +32,19 @@ extern "C" {
 enum {
     SWSUSP_OK = 0,
     SWSUSP_BAD_STATE = 1,    /* the state isn't one that the library wrote */
-    SWSUSP_BAD_PAGE = 2,     /* the buffer hasn't SWSUSP_PAGE bytes */
+    SWSUSP_BAD_PAGE = 2,     /* the buffer doesn't have SWSUSP_PAGE bytes */
     SWSUSP_BAD_MEMORY = 3,   /* a range of page frames is empty, or begins before the end of the one before it */
     SWSUSP_BAD_PRESENT = 4,  /* there are no page frames, or 2^52 and more */
     SWSUSP_BAD_HEADER = 5,   /* the header's block isn't one of the disk's */
     SWSUSP_BAD_IDENTITY = 6, /* none of SWSUSP_ANY_KERNEL, SWSUSP_SAME_KERNEL and SWSUSP_SAME_ARCHITECTURE */
-    SWSUSP_BAD_WORDS = 7     /* fewer words are lent than SWSUSP_WORDS says */
+    SWSUSP_BAD_WORDS = 7     /* the caller lends fewer words than SWSUSP_WORDS says */
 };
 
 /* What comes next: the kind of a call. */
 enum {
-    SWSUSP_SYNC = 1,    /* what was written is to be on the disk before the answer */
-    SWSUSP_READ = 2,    /* block `first` is to be read into the buffer */
-    SWSUSP_WRITE = 3,   /* the buffer is to be written to block `first` */
+    SWSUSP_SYNC = 1,    /* what was written must be on the disk before the answer */
+    SWSUSP_READ = 2,    /* block `first` must be read into the buffer */
+    SWSUSP_WRITE = 3,   /* the buffer must be written to block `first` */
     SWSUSP_PLACE = 4,   /* the buffer is the page of page frame `first` */
     SWSUSP_DONE = 5,    /* an end: each page was handed out, `first` of them */
     SWSUSP_REFUSED = 6, /* an end: the image isn't resumed, for the cause `reason` */
@@ -64,9 +64,9 @@ enum {
     SWSUSP_MEMORY_SIZE = 9,   /* the image's page frames `first`, the machine's `second` */
     SWSUSP_BAD_COUNTS = 10,   /* page frames saved `first`, pages of the stream `second` */
     SWSUSP_BAD_PFN = 11,      /* page frame `first` is no memory */
-    SWSUSP_PFN_ORDER = 12,    /* page frame `second` isn't above `first`, the one before */
-    SWSUSP_PFN_END = 13,      /* the word `first` stands after the last page frame's number */
-    SWSUSP_NO_ORIGINAL = 14   /* of swsusp_discard_next alone: what the mark would be taken back to is an image's too */
+    SWSUSP_PFN_ORDER = 12,    /* page frame `second` isn't above `first`, the one before it */
+    SWSUSP_PFN_END = 13,      /* the word `first` follows the last page frame's number */
+    SWSUSP_NO_ORIGINAL = 14   /* only from swsusp_discard_next: the signature under the mark is an image's too */
 };
 
 /* The field of SWSUSP_MISMATCH. */
@@ -111,11 +111,11 @@ struct swsusp_machine {
     uint64_t present;            /* how many page frames the kernel counts (num_physpages), below 2^52 */
     uint64_t blocks;             /* how many blocks of SWSUSP_PAGE bytes the disk has */
     uint64_t header;             /* the block of the area's header */
-    uint32_t hardware_signature; /* compared where the image carries one */
+    uint32_t hardware_signature; /* compared if the image has one */
     uint32_t identity;           /* SWSUSP_ANY_KERNEL, SWSUSP_SAME_KERNEL or SWSUSP_SAME_ARCHITECTURE */
     uint32_t version_code;       /* LINUX_VERSION_CODE */
     uint8_t names[6][65];        /* sysname, nodename, release, version, machine, domainname, filled with zero bytes */
-    uint8_t architecture[390];   /* the first bytes of the info page, where an architecture has a header of its own */
+    uint8_t architecture[390];   /* the first bytes of the info page, if the architecture has a header of its own */
 };
 
 /* A resume. Its fields are the library's. */
@@ -140,7 +140,7 @@ struct swsusp_resume {
     uint8_t numbers[SWSUSP_PAGE];
 };
 
-/* The end of an image that isn't resumed. Its field is the library's. */
+/* Giving up an image that isn't resumed. Its field is the library's. */
 struct swsusp_discard {
     struct swsusp_call call;
 };
@@ -231,7 +231,7 @@ enum {
 
 /* Why a block that is named can't be a page of the image: `fault` of SWSUSP_FOUND_MAP and SWSUSP_FOUND_ENTRY. */
 enum {
-    SWSUSP_BLOCK_ZERO = 1,        /* block 0: none is named */
+    SWSUSP_BLOCK_ZERO = 1,        /* block 0: no block is named */
     SWSUSP_BLOCK_BEYOND_FILE = 2, /* beyond the disk */
     SWSUSP_BLOCK_BEYOND_LAST = 3, /* beyond the last page of the area */
     SWSUSP_BLOCK_BAD = 4,         /* a bad page of the area */
@@ -262,13 +262,13 @@ struct swsusp_finding {
     uint64_t fourth;
 };
 
-/* The findings of one call: how many there were, and the first of them, as many as there is room for. */
+/* The findings of one call: how many there were, and as many of the first ones as there is room for. */
 struct swsusp_findings {
     uint64_t count;
     struct swsusp_finding found[SWSUSP_FINDINGS];
 };
 
-/* A compiler that lays a struct out otherwise than the library is refused. */
+/* A compiler that lays a struct out differently from the library is refused. */
 #if defined(__cplusplus)
 #define SWSUSP_SIZE(name, size) static_assert(sizeof(struct name) == (size), #name)
 #else
@@ -285,30 +285,29 @@ SWSUSP_SIZE(swsusp_finding, 56);
 SWSUSP_SIZE(swsusp_findings, 61608);
 
 /*
- * Begins a resume: writes all of *resume, whatever was there. The first call is SWSUSP_SYNC.
+ * Begins a resume: writes all of *resume, whatever it held. The first call is SWSUSP_SYNC.
  */
 void swsusp_resume_begin(struct swsusp_resume *resume);
 
 /*
- * Gives the call that is to be made, or how the resume ended, in *call. It changes nothing else, so it may be asked
- * again.
+ * Gives the call to make, or how the resume ended, in *call. It changes nothing else, so it may be called again.
  */
 void swsusp_resume_next(const struct swsusp_resume *resume, struct swsusp_call *call);
 
 /*
- * Tells that the pending call was made. `page` is the caller's buffer: after SWSUSP_READ it has what the disk gave, and
- * where the next call is SWSUSP_WRITE or SWSUSP_PLACE, that page is in it. Between an answer and the call that needs
- * the page the buffer is left as it is. `memory` has `ranges` ranges, ascending, none empty; they may touch. The same
- * machine and ranges are lent to each call. After an end nothing changes.
+ * Reports that the pending call was made. `page` is the caller's buffer: after SWSUSP_READ it has what the disk gave,
+ * and if the next call is SWSUSP_WRITE or SWSUSP_PLACE, it has that call's page. Between an answer and the call that
+ * needs the page the buffer must stay as it is. `memory` has `ranges` ranges, ascending, none empty; they may touch.
+ * The same machine and ranges are lent to each call. After an end nothing changes.
  *
  * Returns SWSUSP_OK, after an end too; or SWSUSP_BAD_PAGE, SWSUSP_BAD_IDENTITY, SWSUSP_BAD_MEMORY, SWSUSP_BAD_PRESENT,
- * SWSUSP_BAD_HEADER or SWSUSP_BAD_STATE, the first that fits in this order, and then nothing was changed.
+ * SWSUSP_BAD_HEADER or SWSUSP_BAD_STATE, the first that applies in this order, and then nothing was changed.
  */
 uint32_t swsusp_resume_answer(struct swsusp_resume *resume, const struct swsusp_machine *machine,
                               const struct swsusp_range *memory, size_t ranges, uint8_t *page, size_t size);
 
 /*
- * Tells that the pending call failed: the next one is SWSUSP_FAILED. After an end nothing changes.
+ * Reports that the pending call failed: the next one is SWSUSP_FAILED. After an end nothing changes.
  *
  * Returns SWSUSP_OK; or SWSUSP_BAD_STATE, and then nothing was changed.
  */
@@ -321,13 +320,13 @@ uint32_t swsusp_resume_fail(struct swsusp_resume *resume);
 void swsusp_discard_begin(struct swsusp_discard *discard, uint64_t header);
 
 /*
- * Gives the call that is to be made, or how it ended, in *call: SWSUSP_READ, SWSUSP_WRITE and SWSUSP_SYNC, and then
+ * Gives the call to make, or how the discard ended, in *call: SWSUSP_READ, SWSUSP_WRITE and SWSUSP_SYNC, and then
  * SWSUSP_DONE; SWSUSP_REFUSED with SWSUSP_NO_IMAGE or SWSUSP_NO_ORIGINAL, and nothing was written; or SWSUSP_FAILED.
  */
 void swsusp_discard_next(const struct swsusp_discard *discard, struct swsusp_call *call);
 
 /*
- * Tells that the pending call was made. `page` is the caller's buffer, as for swsusp_resume_answer. After an end
+ * Reports that the pending call was made. `page` is the caller's buffer, as for swsusp_resume_answer. After an end
  * nothing changes.
  *
  * Returns SWSUSP_OK, after an end too; or SWSUSP_BAD_PAGE or else SWSUSP_BAD_STATE, and then nothing was changed.
@@ -335,14 +334,14 @@ void swsusp_discard_next(const struct swsusp_discard *discard, struct swsusp_cal
 uint32_t swsusp_discard_answer(struct swsusp_discard *discard, uint8_t *page, size_t size);
 
 /*
- * Tells that the pending call failed: the next one is SWSUSP_FAILED, with reason 0. After an end nothing changes.
+ * Reports that the pending call failed: the next one is SWSUSP_FAILED, with reason 0. After an end nothing changes.
  *
  * Returns SWSUSP_OK; or SWSUSP_BAD_STATE, and then nothing was changed.
  */
 uint32_t swsusp_discard_fail(struct swsusp_discard *discard);
 
 /*
- * Says what the header block of an area is, which the caller read into `page`: writes all of *header.
+ * Says what the header block is that the caller has read into `page`: writes all of *header.
  *
  * Returns SWSUSP_OK; or SWSUSP_BAD_PAGE, and then nothing was changed.
  */
@@ -351,10 +350,10 @@ uint32_t swsusp_inspect(const uint8_t *page, size_t size, struct swsusp_header *
 /*
  * Begins a check of the image whose header is in block `header` of a disk of `blocks` blocks: writes all of *check. It
  * reads the blocks that swsusp_image(8) `check` reads, each once, and finds the same; but of a compressed image it
- * reads the header block alone, and finds that it is compressed.
+ * reads only the header block, and finds that the image is compressed.
  *
- * `words` has `room` words, at least SWSUSP_WORDS(blocks), whatever they hold. The same words are lent to each call,
- * and nobody else writes them until the check is over.
+ * `words` has `room` words, at least SWSUSP_WORDS(blocks); what they hold doesn't matter. The same words are lent to
+ * each call, and nobody else writes them until the check is over.
  *
  * Returns SWSUSP_OK; or SWSUSP_BAD_WORDS, and then nothing was changed.
  */
@@ -362,26 +361,26 @@ uint32_t swsusp_check_begin(struct swsusp_check *check, uint32_t blocks, uint32_
                             size_t room);
 
 /*
- * Gives in *call the block that is to be read (SWSUSP_READ), or how the check ended: SWSUSP_DONE, or SWSUSP_REFUSED
- * with SWSUSP_NO_IMAGE where the header block has no mark of an image or isn't on the disk. It changes nothing else.
+ * Gives in *call the block to read (SWSUSP_READ), or how the check ended: SWSUSP_DONE, or SWSUSP_REFUSED
+ * with SWSUSP_NO_IMAGE if the header block has no mark of an image or isn't on the disk. It changes nothing else.
  *
  * Returns SWSUSP_OK; or SWSUSP_BAD_STATE, and then nothing was changed.
  */
 uint32_t swsusp_check_next(const struct swsusp_check *check, struct swsusp_call *call);
 
 /*
- * Tells that the pending read was made, into the buffer `page`, and writes to *findings what was found by it. What all
- * answers and failures of a check find, one after another, is what is wrong with the image. After the end nothing is
- * found, and *check stays.
+ * Reports that the pending read was made, into the buffer `page`, and writes to *findings what this call found. What
+ * all answers and failures of a check find, one after another, is what is wrong with the image. After the end nothing
+ * is found, and *check stays.
  *
- * Returns SWSUSP_OK, after the end too; or SWSUSP_BAD_PAGE, SWSUSP_BAD_WORDS or SWSUSP_BAD_STATE, the first that fits
- * in this order, and then nothing was changed.
+ * Returns SWSUSP_OK, after the end too; or SWSUSP_BAD_PAGE, SWSUSP_BAD_WORDS or SWSUSP_BAD_STATE, the first that
+ * applies in this order, and then nothing was changed.
  */
 uint32_t swsusp_check_answer(struct swsusp_check *check, uint64_t *words, size_t room, const uint8_t *page, size_t size,
                              struct swsusp_findings *findings);
 
 /*
- * Tells that the pending read failed, which is a finding, and writes to *findings what was found by that. The check
+ * Reports that the pending read failed, which is a finding, and writes to *findings what this call found. The check
  * goes on. After the end nothing is found, and *check stays.
  *
  * Returns SWSUSP_OK, after the end too; or SWSUSP_BAD_WORDS or else SWSUSP_BAD_STATE, and then nothing was changed.
