@@ -1,7 +1,7 @@
 # make            proves and builds the programs
 # make install    puts programs, manual pages, completions, examples, documents and the check before a resume below DESTDIR and PREFIX
 # make uninstall  removes them
-# make library    proves and builds the library for C, out/libswsusp.a; make install-library puts it, its header and its manual page in place
+# make library    proves and builds the library for C, out/libswsusp.a; make install-library installs it, its header and its manual page
 # make check      tries the programs that are built, and checks the documents
 # make deb        makes a Debian package of the programs that are built, in out/deb
 VERSION := $(shell cat VERSION)
@@ -23,7 +23,7 @@ MACHINE := crates/swsusp_machine/out/swsusp_machine
 IMAGE := crates/swsusp_image/out/swsusp_image
 LIBRARY := crates/swsusp_c/out/libswsusp_c.a
 PROGRAMS := $(SWSUSP) $(MACHINE) $(IMAGE)
-# What the scripts of examples/ call.
+# The tools that the scripts of examples/ call.
 TOOLS := tools/make_area.sh tools/make_dump.py tools/extents.py
 MISSING = $(filter-out $(wildcard $(PROGRAMS)),$(PROGRAMS))
 

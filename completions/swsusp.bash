@@ -1,4 +1,4 @@
-# Completions of swsusp for bash, by its `--help`.
+# Completions of swsusp for bash, as its `--help` lists them.
 _swsusp() {
     local word=${COMP_WORDS[COMP_CWORD]} before=${COMP_WORDS[COMP_CWORD - 1]} command=${COMP_WORDS[1]}
     COMPREPLY=()

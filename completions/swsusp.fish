@@ -1,4 +1,4 @@
-# Completions of swsusp for fish, by its `--help`.
+# Completions of swsusp for fish, as its `--help` lists them.
 set -l commands inspect hibernate resume replay drill export import help
 complete -c swsusp -f
 complete -c swsusp -n __fish_use_subcommand -a inspect -d 'Tells what the header block of a swap area says'

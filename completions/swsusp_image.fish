@@ -1,4 +1,4 @@
-# Completions of swsusp_image for fish, by its `--help`.
+# Completions of swsusp_image for fish, as its `--help` lists them.
 set -l commands check show stream page core differ discard loader machine help
 complete -c swsusp_image -f
 complete -c swsusp_image -n __fish_use_subcommand -a check -d 'Tells what is wrong with the image of a swap area'

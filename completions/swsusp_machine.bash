@@ -1,4 +1,4 @@
-# Completions of swsusp_machine for bash, by its `--help`.
+# Completions of swsusp_machine for bash, as its `--help` lists them.
 _swsusp_machine() {
     local word=${COMP_WORDS[COMP_CWORD]} command=${COMP_WORDS[1]}
     COMPREPLY=()

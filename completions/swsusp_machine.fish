@@ -1,4 +1,4 @@
-# Completions of swsusp_machine for fish, by its `--help`.
+# Completions of swsusp_machine for fish, as its `--help` lists them.
 set -l commands make draw loader core from-core show differ check help
 complete -c swsusp_machine -f
 complete -c swsusp_machine -n __fish_use_subcommand -a make -d 'Plays a script, and writes the memory of its machine as a dump'

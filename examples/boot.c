@@ -1,9 +1,9 @@
 /*
  * boot IMAGE MEMORY FRAMES [FAIL [STOP]]: resumes the image of the swap area in the file IMAGE, as a boot loader would,
- * into a buffer of FRAMES page frames, which it writes to the file MEMORY at the end. Call number FAIL, from 0, is
- * told to have failed; STOP is the number of the call before which it breaks off.
+ * into a buffer of FRAMES page frames, which it writes to the file MEMORY at the end. Call number FAIL, counted from 0,
+ * is reported as failed; before call number STOP it breaks off.
  *
- * It prints how it ended. Status 0: each page was placed. 1: refused or failed. 2: the words, or a file. 3: broken off.
+ * Prints how it ended. Status 0: each page was placed. 1: refused or failed. 2: wrong words or a file. 3: broken off.
  */
 #include <stdio.h>
 #include <stdlib.h>
@@ -52,7 +52,7 @@ static int save(const char *name, const uint8_t *memory, uint64_t frames)
     return (file == NULL || fclose(file) == 0) && whole;
 }
 
-/* The resume, call by call: the number of calls that were made. */
+/* Resumes the image call by call, and returns the number of calls that were made. */
 static uint64_t resume(struct disk *disk, uint64_t frames, uint64_t fail, uint64_t stop, uint8_t *memory,
                        struct swsusp_call *call)
 {

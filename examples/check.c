@@ -1,9 +1,9 @@
 /*
  * check IMAGE [FAIL [STOP]]: checks the image of the swap area in the file IMAGE, as a boot loader would, and prints
- * what is wrong with it in the words of `swsusp_image check`. Read number FAIL, from 0, is told to have failed; STOP is
- * the number of the read before which it breaks off.
+ * what is wrong with it in the words of `swsusp_image check`. Read number FAIL, counted from 0, is reported as failed;
+ * before read number STOP it breaks off.
  *
- * Status 0: nothing is wrong. 1: something is, or there is no image. 2: the words, or a file. 3: broken off.
+ * Status 0: nothing is wrong. 1: something is, or there is no image. 2: wrong words or a file. 3: broken off.
  */
 #include <inttypes.h>
 #include <stdio.h>
@@ -11,7 +11,7 @@
 
 #include "swsusp.h"
 
-/* The block at fault, or what a unit's stream has. */
+/* What is wrong with a block, or with a unit's stream. */
 static const char *const BLOCK[] = {"", "", " is beyond the file", " is beyond the last page", " is a bad page",
                                     " is named already", " can't be read"};
 static const char *const STREAM[] = {"", "a stream of another version", "the input is too short",
@@ -46,7 +46,7 @@ static void print_word(const struct swsusp_finding *f)
     printf("numbers page %" PRIu64 " word %" PRIu64 ": %" PRIu64, f->first, f->second, f->third);
 }
 
-/* A finding of a unit or of the checksum. */
+/* Prints a finding of a unit or of the checksum. */
 static void print_unit(const struct swsusp_finding *f)
 {
     if (f->kind == SWSUSP_FOUND_CHECKSUM) {
@@ -62,7 +62,7 @@ static void print_unit(const struct swsusp_finding *f)
     }
 }
 
-/* A finding in the words of `swsusp_image check`. */
+/* Prints a finding in the words of `swsusp_image check`. */
 static void print_finding(const struct swsusp_finding *f)
 {
     switch (f->kind) {
@@ -139,7 +139,7 @@ static int read_block(FILE *file, uint64_t block, uint8_t *page)
     return fseek(file, (long)(block * SWSUSP_PAGE), SEEK_SET) == 0 && fread(page, SWSUSP_PAGE, 1, file) == 1;
 }
 
-/* Ends where a call returned another code than SWSUSP_OK, or had more findings than were kept. */
+/* Ends the program if a call returned another code than SWSUSP_OK, or had more findings than were kept. */
 static void must(uint32_t code, const struct swsusp_findings *findings)
 {
     if (code != SWSUSP_OK || findings->count > SWSUSP_FINDINGS) {
@@ -148,7 +148,7 @@ static void must(uint32_t code, const struct swsusp_findings *findings)
     }
 }
 
-/* The check, read by read: how many findings there were. */
+/* Checks the image read by read, and returns the number of findings. */
 static uint64_t check(FILE *file, uint32_t blocks, uint64_t fail, uint64_t stop, uint64_t *words,
                       struct swsusp_call *call)
 {

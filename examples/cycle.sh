@@ -1,13 +1,13 @@
 #!/bin/sh
-# cycle.sh [SWSUSP SWSUSP_MACHINE]: saves a machine to a swap area and restores it, on real files, sees that it is the same, and draws a picture of
-# what happened. The words are the programs; without them those that `rt run` or `rt ci` left, or else ones that are built here without proving
-# them, and where this is installed those on the path.
+# cycle.sh [SWSUSP SWSUSP_MACHINE]: saves a machine to a swap area and restores it, on real files, checks that it is the same, and draws a picture
+# of what happened. The words are the programs, by default those that `rt run` or `rt ci` left, or else programs that are built here without
+# proving them; in an installation, those on the path.
 set -eu
 top=$(cd "$(dirname "$0")/.." && pwd)
 picture=$top/out/cycle.svg
 [ -d "$top/crates" ] || { set -- "${1:-$(command -v swsusp)}" "${2:-$(command -v swsusp_machine)}"; picture=$PWD/cycle.svg; }
 
-# The place of the program $1, which is built where it isn't there or its sources are newer.
+# Prints the path of the program $1, and builds it if it doesn't exist or its sources are newer.
 place() {
     at=$top/crates/$1/out/$1
     if [ ! -x "$at" ]; then
@@ -19,7 +19,7 @@ place() {
     fi
     echo "$at"
 }
-# Both are built at once.
+# Both programs are built at the same time.
 [ $# -ge 2 ] || place swsusp_machine > /dev/null &
 swsusp=${1:-$(place swsusp)}
 wait "$!"
@@ -49,7 +49,7 @@ python3 "$top/tools/make_dump.py" loader > loader.dump
 tell 'swsusp hibernate area.img < saved.dump'
 tell 'swsusp inspect area.img'
 tell 'swsusp resume area.img < loader.dump > restored.dump'
-# The record of page frame 10, the task's, stands in both dumps at this byte.
+# The record of page frame 10, the task's, is at this byte in both dumps.
 cmp -n 4096 -i 12740 saved.dump restored.dump && echo "page frame 10 is the same in both dumps"
 tell 'swsusp inspect area.img'
 echo '$ swsusp resume area.img < loader.dump'
@@ -58,7 +58,7 @@ if swsusp resume area.img < loader.dump 2>&1; then
     exit 1
 fi
 
-# The same machine once more, step by step, as a script: 12 steps save its 5 page frames, as many bring them back, and a second resume finds none.
+# The same machine once more, step by step, as a script: 12 steps save its 5 page frames, 12 more bring them back, and a second resume finds no image.
 mkdir -p "$(dirname "$picture")"
 {
     cat "$top/examples/story.txt"

@@ -1,10 +1,10 @@
 #!/bin/sh
-# embed_test.sh [LIBRARY [SWSUSP [SWSUSP_IMAGE]]]: resumes images by examples/boot.c over the static library LIBRARY (without the word the one that
-# `rt lib` left in crates/swsusp_c/out), of an area that the program SWSUSP hibernated into. Compares each page with the image's bytes, breaks the
-# resume off before each call and boots again, fails each call in turn, and does so under valgrind and the sanitizers too, where they are there. Checks
-# these images and damaged copies of them by examples/check.c, and compares what that prints with what the program SWSUSP_IMAGE does. tests/border.c
-# tries wrong arguments, an area's facts and the end of an image, tests/stack.c how much stack a call takes. The library may call nothing but memcpy
-# and its like, and has less than 100 KiB of text.
+# embed_test.sh [LIBRARY [SWSUSP [SWSUSP_IMAGE]]]: resumes images by examples/boot.c over the static library LIBRARY (by default the one that
+# `rt lib` left in crates/swsusp_c/out), from an area that the program SWSUSP hibernated into. Compares each page with the image's bytes, breaks the
+# resume off before each call and boots again, fails each call in turn, and does so under valgrind and the sanitizers too, if they are installed.
+# Checks these images and damaged copies of them by examples/check.c, and compares what that prints with what the program SWSUSP_IMAGE prints.
+# tests/border.c tries wrong arguments, an area's facts and the end of an image, tests/stack.c how much stack a call takes. The library may call
+# nothing but memcpy and its like, and must have less than 100 KiB of text.
 set -eu
 top=$(cd "$(dirname "$0")/.." && pwd)
 library=${1:-$top/crates/swsusp_c/out/libswsusp_c.a}
@@ -37,7 +37,7 @@ valgrind=$(command -v valgrind || true)
 # shellcheck disable=SC2086
 $cc $flags -O2 -o "$room/border" "$top/tests/border.c" "$library"
 
-# A small image, of 5 saved page frames, and one of 1,268, with three maps and three number pages.
+# A small image of 5 saved page frames, and one of 1,268 with three maps and three number pages.
 sh "$top/tools/make_area.sh" "$room/small" 1599
 python3 "$top/tools/make_dump.py" saved | "$swsusp" hibernate "$room/small"
 sh "$top/tools/make_area.sh" "$room/large" 3999
@@ -45,7 +45,7 @@ python3 "$top/tools/make_dump.py" saved 1200 4000 | "$swsusp" hibernate "$room/l
 sh "$top/tools/make_area.sh" "$room/zeros" 1599
 python3 "$top/tools/make_dump.py" saved | "$swsusp" hibernate --skip-zeros "$room/zeros"
 
-# The sizes that docs/EMBEDDING.md tells.
+# The sizes that docs/EMBEDDING.md gives.
 # shellcheck disable=SC2086
 $cc $flags -O2 -o "$room/stack" "$top/tests/stack.c" "$library"
 "$room/stack" "$room/small" 2048
@@ -68,7 +68,7 @@ import sys
 ROOM = sys.argv[1]
 BOOT = [os.path.join(ROOM, "boot")]
 CHECK = [os.path.join(ROOM, "check")]
-# How both programs are started under the sanitizers and under valgrind.
+# The commands that start both programs under the sanitizers and under valgrind.
 WATCHED = {}
 if os.path.exists(os.path.join(ROOM, "checked_boot")):
     WATCHED["sanitizers"] = [os.path.join(ROOM, "checked_boot")], [os.path.join(ROOM, "checked_check")]
@@ -78,7 +78,7 @@ if os.environ["VALGRIND"]:
 PAGE = 4096
 DONE, REFUSED, FAILED = 5, 6, 7
 NO_IMAGE, NO_CHAIN, BAD_BLOCK, MEMORY_SIZE = 1, 4, 5, 9
-# Where struct swsusp_header has `image`, and struct swsusp_info `num_physpages`.
+# The places of `image` in struct swsusp_header, and of `num_physpages` in struct swsusp_info.
 MARK, COUNTS = 4064, 400
 SKIPS_ZEROS = 256
 SAME, UNSURE, GONE = 1, 2, 3

@@ -1,7 +1,7 @@
 #!/bin/sh
-# A machine's story on real files: it is made, hibernates, is checked and resumed, and is compared with what it was. Each command is printed
-# and then what it prints. The words are the programs `swsusp` and `swsusp_machine`, or without them those that `rt run` or `rt ci` leaves, and where
-# this is installed those on the path.
+# A machine's story on real files: it is made, hibernates, is checked and resumed, and is compared with what it was. Each command is printed,
+# and then its output. The words are the programs `swsusp` and `swsusp_machine`, by default those that `rt run` or `rt ci` leaves, and in an
+# installation those on the path.
 set -eu
 top=$(cd "$(dirname "$0")/.." && pwd)
 [ -d "$top/crates" ] || set -- "${1:-$(command -v swsusp)}" "${2:-$(command -v swsusp_machine)}"
@@ -25,7 +25,7 @@ cd "$room"
 cp "$top/examples/story.txt" story.txt
 sh "$top/tools/make_area.sh" area.img 1599
 
-# Prints a command, what it prints, and its status where that isn't 0.
+# Prints a command, its output, and its status if that isn't 0.
 tell() {
     echo "\$ $1"
     sh -c "$1" 2>&1 || echo "status $?"

@@ -1,7 +1,7 @@
 #!/bin/sh
-# make_deb.sh: makes a Debian package of the programs that are built, in out/deb, and lets lintian look at it where it is there.
+# make_deb.sh: makes a Debian package of the programs that are built, in out/deb, and runs lintian on it if that is installed.
 #
-# It works on a copy of what git has, with the built programs beside, so nothing is left in the tree. The package's version is that of VERSION.
+# It works on a copy of what git has, with the built programs added, so nothing is left in the tree. The package's version is that of VERSION.
 set -eu
 top=$(cd "$(dirname "$0")/.." && pwd)
 version=$(cat "$top/VERSION")

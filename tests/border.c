@@ -70,7 +70,7 @@ static void after_end(void)
     assert(memcmp(&resume, &before, sizeof resume) == 0 && memcmp(page, kept, sizeof page) == 0);
 }
 
-/* So of a check. */
+/* The same for a check. */
 static void check_border(void)
 {
     static struct swsusp_findings findings, found;
@@ -112,14 +112,14 @@ static void check_border(void)
     assert(memcmp(&check, &before, sizeof check) == 0);
     assert(swsusp_check_begin(&check, 64, 64, words, 2) == SWSUSP_OK && swsusp_check_next(&check, &call) == SWSUSP_OK);
     assert(call.kind == SWSUSP_REFUSED && call.reason == SWSUSP_NO_IMAGE);
-    /* Numbers that the library never wrote are read without an access outside what is lent. */
+    /* Numbers that the library never wrote are read without an access outside the memory that it was lent. */
     memset(&check, 0xff, sizeof check);
     check.blocks = 64;
     for (check.stage = 1; check.stage < 5; check.stage++)
         assert(swsusp_check_answer(&check, words, 2, page, sizeof page, &findings) == SWSUSP_OK);
 }
 
-/* The kind of the header block of the file. */
+/* Returns the kind of the file's header block. */
 static uint32_t kind(FILE *file)
 {
     struct swsusp_header header;
@@ -133,7 +133,7 @@ static uint32_t kind(FILE *file)
     return header.kind;
 }
 
-/* Gives the image up, and tells how that ended. */
+/* Gives the image up, and returns how that ended. */
 static struct swsusp_call discard(FILE *file, int fail)
 {
     struct swsusp_discard discard;

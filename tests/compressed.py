@@ -1,8 +1,8 @@
-"""Compressed images, written as save_image_lzo of kernel/power/swap.c does, and read.
+"""Compressed images, written as save_image_lzo of kernel/power/swap.c writes them, and a reader of them.
 
-The info page stands by itself. The pages that follow it in the plain image are cut into units of 32, the last one may have fewer. A unit is
-eight bytes with the length of its compressed bytes, these bytes, and zeros up to a whole page; the chain of maps names its pages after the info
-page's. With flag 4 the header has the kernel's crc32_le of all bytes of the units before they are compressed.
+The info page stands by itself. The pages that follow it in the plain image are cut into units of 32; the last unit may have fewer. A unit
+consists of eight bytes with the length of its compressed bytes, these bytes, and zeros up to a whole page. The chain of maps names the units'
+pages after the info page. With flag 4 the header has the kernel's crc32_le of all bytes of the units before they are compressed.
 """
 import itertools
 import struct
@@ -16,12 +16,12 @@ from lzo1x import Match
 UNIT_PAGES = 32
 UNIT = UNIT_PAGES * PAGE
 CRC32 = 4
-# LZO_CMP_SIZE of kernel/power/swap.c without the header's eight bytes: the most that a compressor makes of a unit, and what it may use after it.
+# LZO_CMP_SIZE of kernel/power/swap.c without the header's eight bytes: the most bytes that a compressor makes of a unit or uses after it.
 MOST = UNIT + UNIT // 16 + 64 + 3 + 2
 
 
 def crc32_le(content, seed=0):
-    """The kernel's checksum: zlib's without its inversions."""
+    """Returns the kernel's checksum: zlib's without its inversions."""
     return zlib.crc32(content, seed ^ 0xFFFFFFFF) ^ 0xFFFFFFFF
 
 
@@ -30,8 +30,8 @@ def cut(content):
 
 
 class Compressed(Built):
-    """A compressed image of these pages, of which the first is the info page, laid block by block as `Built` lays a plain one. `packed` makes the
-    compressed bytes of unit k, from 0 on."""
+    """A compressed image of these pages, the first of which is the info page, laid out block by block as `Built` lays out a plain one.
+    `packed` makes the compressed bytes of unit k, counted from 0."""
 
     def __init__(self, pages, last=None, bad=(), first=1, header=0, flags=CRC32, packed=lambda k, unit: lzo1x.compress(unit)):
         self.pages = pages
@@ -41,7 +41,7 @@ class Compressed(Built):
         self.lay(last)
 
     def lay(self, last=None):
-        """Lays the streams in blocks anew, without what was put into these."""
+        """Lays the streams out in blocks anew; bytes that were put into the old blocks are lost."""
         units = [struct.pack("<Q", len(it)) + it for it in self.streams]
         units = [it.ljust(-(-len(it) // PAGE) * PAGE, b"\0") for it in units]
         # The place of each unit's first page in the chain.
@@ -65,12 +65,12 @@ class Compressed(Built):
         self.put(self.header, 4060, struct.pack("<I", self.checksum))
 
     def put_stream(self, k, content):
-        """Other bytes for unit k, after their length; the checksum stays that of the pages."""
+        """Gives unit k other bytes after their length; the checksum stays that of the pages."""
         self.streams[k] = content
         self.lay(self.last)
 
     def put_bytes(self, k, at, content):
-        """Bytes in the pages of unit k, of which the first eight have the length."""
+        """Writes bytes into the pages of unit k, whose first eight bytes are the length."""
         for i, byte in enumerate(content):
             page, rest = divmod(at + i, PAGE)
             self.put(self.places[self.starts[k] + page], rest, bytes([byte]))
@@ -79,18 +79,18 @@ class Compressed(Built):
         self.put_bytes(k, 0, struct.pack("<Q", length))
 
     def place(self, k):
-        """How the first page of unit k is told."""
+        """Returns the words by which a finding names the first page of unit k."""
         at, entry = divmod(self.starts[k], ENTRIES)
         return f"unit {k + 1} map {at + 1} block {self.maps[at]} entry {entry}"
 
 
 def twin(plain, **settings):
-    """The compressed image of the same memory in an area of the same size, whose header, bad slots and first map are told in the settings."""
+    """Returns the compressed image of the same memory in an area of the same size; the settings give its header block, bad slots and first map."""
     return Compressed([plain.blocks[b] for b in plain.places], last=plain.last, **settings)
 
 
 def pages_of(file, header=0):
-    """The pages of a plain image in a file, in the order of its chain."""
+    """Returns the pages of a plain image in a file, in the order of its chain."""
     page = file.block(header)
     found, at = [], struct.unpack_from("<Q", page, 4064)[0]
     while at:
@@ -99,8 +99,8 @@ def pages_of(file, header=0):
     return found
 
 
-# An instruction of each kind and form that a stream of six pages has room for: of each kind of match the nearest, the farthest, the shortest, the longest
-# and a longer one, some before one to three literals; runs of 4, 18 and 19 literals.
+# Each kind and form of instruction that a stream of six pages has room for: of each kind of match the nearest, the farthest, the shortest, the
+# longest and one longer still, some of them before one to three literals; and runs of 4, 18 and 19 literals.
 EACH_KIND = [
     b"runs", Match(3, 2049, 1), b"to", Match(2, 1, 1), b"x", Match(2, 1024, 1), b"of literals, eigh..", Match(3, 3072, 1), Match(3, 1, 2), b"yes",
     Match(8, 2048, 2), Match(4, 9, 2), b"eighteen literals.", Match(5, 2000, 2), Match(3, 3, 3), b"z", Match(33, 4000, 3), Match(34, 2, 3),
@@ -110,7 +110,7 @@ EACH_KIND = [
 
 
 def crafted(instructions, saved=5, begin_with_run=False):
-    """An image of one unit, whose stream has the number page, these instructions, and a match that fills the unit."""
+    """Returns an image of one unit, whose stream has the number page, these instructions, and a match that fills the unit."""
     plain = Built(saved)
     page = plain.blocks[plain.places[1]]
     front = 8 * saved + 9
@@ -131,7 +131,7 @@ class Unread(Exception):
 
 
 class Chain:
-    """The pages that the maps of an area name, as far as a reading asks for them. The maps themselves aren't looked at for damage."""
+    """The pages that the maps of an area name, read as they are asked for. It doesn't check the maps themselves for damage."""
 
     def __init__(self, built):
         self.blocks, self.entries, self.wanted = built.blocks, [], 0
@@ -152,7 +152,7 @@ class Chain:
 
 
 def unit_at(chain, at, k, room):
-    """The bytes of unit k, whose first page is at this place of the chain, and the place of the next one."""
+    """Returns the bytes of unit k, whose first page is at place `at` of the chain, and the place of the next unit."""
     first = chain.page(at)
     length, = struct.unpack_from("<Q", first)
     if not 1 <= length <= MOST:
@@ -169,7 +169,7 @@ def unit_at(chain, at, k, room):
 
 
 def read(built):
-    """The stream of a compressed image's pages, the info page first, or Unread."""
+    """Returns the stream of a compressed image's pages, the info page first, or raises Unread."""
     chain, units = Chain(built), []
     info = chain.page(0)
     chain.wanted, = struct.unpack_from("<Q", info, 424)

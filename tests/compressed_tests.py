@@ -1,7 +1,7 @@
-"""Compressed images: `check`, `stream`, `page`, `core`, `loader` and `machine` say of one what they say of the plain image of the same memory, and it is
-carried over into that.
+"""Compressed images: `check`, `stream`, `page`, `core`, `loader` and `machine` say the same of a compressed image as of the plain image of
+the same memory, and a compressed image can be carried over into a plain one.
 
-The images are written by compressed.py, and what is wrong with a damaged one is told by its reader, or written down here.
+compressed.py writes the images. What is wrong with a damaged one is found by the reader there, or written down here.
 """
 import itertools
 import pathlib
@@ -20,16 +20,16 @@ from lzo1x import Match
 
 
 def stored_first(count):
-    """Units of which the first ones are literals alone, so that each takes 33 pages."""
+    """Packs the first `count` units as literals only, so that each takes 33 pages."""
     return lambda k, unit: lzo1x.store(unit) if k < count else lzo1x.compress(unit)
 
 
-# So many page frames and a number page for each 512 of them: units of 32 pages, and a last one of 2, 31, 32, 1, 32, 9 and 28 pages.
+# Numbers of saved page frames. With a number page for each 512 of them they make units of 32 pages, and a last one of 2, 31, 32, 1, 32, 9 and 28.
 SIZES = [1, 30, 31, 32, 63, 600, 1018]
 
 
 def check_streamed(built, stream, *options):
-    """The image is whole, and its stream is this one. Neither command writes the area."""
+    """Checks that the image is whole and that its stream is this one. Neither command writes to the area."""
     check_findings(built, options=options)
     ran, before, after = ran_over(built, "stream", *options)
     check(ran, 0, stream)
@@ -37,7 +37,7 @@ def check_streamed(built, stream, *options):
 
 
 def check_unread(built, line):
-    """Check and stream say this line alone, and nothing of the image is written."""
+    """Checks that `check` and `stream` print this line only, and that the area stays as it is."""
     check_findings(built, line)
     ran, before, after = ran_over(built, "stream")
     check_refused(ran, line)
@@ -64,7 +64,7 @@ def test_core_is_that_of_the_plain_twin():
 
 
 def test_a_damaged_image_gives_no_page_and_no_core():
-    """A length that is none, a byte of the last unit, and a checksum: each command notes it, and writes nothing."""
+    """An invalid length, a wrong byte in the last unit, and a wrong checksum: each command notes the fault, and writes nothing."""
     whole = twin(Built(600))
     damages = [
         (lambda built: built.put_length(1, 0), f"{whole.place(1)}: length 0"),
@@ -80,19 +80,19 @@ def test_a_damaged_image_gives_no_page_and_no_core():
         check_refused(paged(built, 0)[0], line)
 
 
-# How the commands that write dumps are asked, with and without what no image says.
+# The commands that write dumps, with and without the facts that no image has.
 DUMPS = [["loader"], ["machine"], ["machine", "--zone", "0", "65536"]]
 
 
 def dumped(built, command):
-    """What a command that writes a dump says of an image, which it leaves as it was."""
+    """Returns what a command that writes a dump says of an image, and checks that the command leaves the image as it was."""
     ran, before, after = ran_over(built, command[0], *command[1:])
     check_same("the area", after, before)
     return ran
 
 
 def test_dumps_are_those_of_the_plain_twin():
-    """Of an area of the same size with the same bad slots, whose signature counts in both where flag 8 is set."""
+    """The twin's area has the same size and bad slots. If flag 8 is set, the hardware signature counts in both."""
     for saved, bad, flags in [(8, (), 4), (40, (1500,), 12), (600, (1, 2, 3, 700), 0)]:
         plain = Built(saved, last=1500, bad=bad, first=4, flags=flags & ~4 | 2)
         built = twin(plain, bad=bad, first=4, flags=flags)
@@ -105,7 +105,7 @@ def test_dumps_are_those_of_the_plain_twin():
 
 
 def test_a_damaged_image_gives_no_dump():
-    """The first that is wrong with the units is noted; what is wrong inside them, as of the plain image."""
+    """The first fault of the units is noted; a fault in the pages inside them is noted as for the plain image."""
     built = twin(Built(600))
     built.put_length(3, 0)
     plain = changed(lambda it: it.put_word(4, 87, 511))
@@ -118,14 +118,14 @@ def test_a_damaged_image_gives_no_dump():
 
 
 def test_limits_of_dumps():
-    """By what its info page and its numbers say."""
+    """The limits apply to what the info page and the number pages say."""
     less, more = (twin(changed(lambda it: it.put(it.places[0], 400, struct.pack("<Q", pages)), 8)) for pages in [2048, 65537])
     for command in [["loader"], ["machine"]]:
         check_refused(dumped(more, command), "limit page frames 65536: memory pages 65537")
         check_refused(dumped(less, [*command, "--zone", "0", "3", "--zone", "4", "2045"]), "page frame 3 lies in no zone")
 
 
-# What is changed of a plain image of 600 page frames before it is compressed, and the lines that tell it.
+# Changes to a plain image of 600 page frames before it is compressed, and the lines that report them.
 DIFFERENCES = [
     (lambda built: built.put(2, 130 + 5, b".1"), ["identity release"]),
     (lambda built: built.put(2, 400, struct.pack("<Q", 2**40)), ["memory size 65536 1099511627776"]),
@@ -136,7 +136,7 @@ DIFFERENCES = [
 
 
 def test_an_image_is_compared_with_one_that_may_be_compressed():
-    """A side's image may be compressed or not, and where its area lies says nothing."""
+    """Either image may be compressed or not, and it doesn't matter where its area lies."""
     plain = Built(600)
     for one, other in [(twin(plain), plain), (plain, twin(plain)), (twin(plain), twin(plain, bad=(1, 2, 3), first=4, flags=0))]:
         check(compared(one, other), 0, b"same\n")
@@ -150,7 +150,8 @@ def test_an_image_is_compared_with_one_that_may_be_compressed():
 
 
 def test_flags_of_compressed_images_are_compared_as_those_of_plain_ones():
-    """Flag 1 says that the kernel was to be suspended by its platform; whether the image is compressed and has a checksum, 4, is no difference."""
+    """Flag 1 says that the kernel was to be suspended by its platform. Whether an image is compressed, and whether it has a checksum (flag 4),
+    is no difference."""
     for flags in [0, 4]:
         check(compared(twin(Built(20), flags=flags), Built(20)), 0, b"same\n")
         check(compared(twin(Built(20), flags=1 + flags), Built(20)), 1, b"header flags 3 2\n")
@@ -158,7 +159,7 @@ def test_flags_of_compressed_images_are_compared_as_those_of_plain_ones():
 
 
 def test_a_damaged_compressed_image_is_not_compared():
-    """What is wrong with it is told before either is compared."""
+    """What is wrong with an image is reported before the two are compared."""
     torn, other = twin(Built(600)), changed(lambda built: built.put(5, 0, b"\0"))
     torn.put_length(3, 0)
     found = f"{torn.place(3)}: length 0\n"
@@ -172,7 +173,7 @@ def test_a_damaged_compressed_image_is_not_compared():
 
 
 def test_what_is_wrong_inside_the_units_of_a_side():
-    """The plain image that it expands to ends the comparison, as one that was written so."""
+    """A damaged plain image inside a compressed one ends the comparison, as it does when it isn't compressed."""
     torn = changed(lambda built: built.put_word(4, 87, 511))
     for fine in [Built(600), twin(Built(600))]:
         for images in [(torn, fine), (fine, torn)]:
@@ -198,7 +199,7 @@ def test_units_of_more_pages_than_they_expand_to():
 
 
 def test_a_last_map_that_is_just_full():
-    """The info page, 15 units of 33 pages and 15 of one fill a map, and the writer makes another, which isn't needed."""
+    """The info page, 15 units of 33 pages and 15 of one page fill a map; the writer then makes another map, which isn't needed."""
     plain = Built(958)
     built = twin(plain, packed=stored_first(15))
     check_same("pages and maps", (len(built.places), len(built.maps)), (511, 2))
@@ -228,13 +229,13 @@ def test_an_area_that_would_not_hold_the_plain_image():
 
 
 def hibernated(area, dump, **settings):
-    """The compressed image of what `hibernate` leaves in an area."""
+    """Returns the compressed image of what `hibernate` leaves in an area."""
     check_same("the status", run("swsusp", "hibernate", area.path, stdin=dump)[0], 0)
     return Compressed(pages_of(area), last=len(area.bytes()) // PAGE - 1, **settings)
 
 
 def test_a_compressed_image_is_carried_over():
-    """Stream, compare, discard the old one, resume the new one. The dumps of each are those of the image that was compressed."""
+    """Stream, compare, discard the old image, resume the new one. The dumps made of either are those of the image that was compressed."""
     machine = Machine()
     loader = machine.loader(1000)
     with fresh_area() as plain, fresh_area() as new, tempfile.TemporaryDirectory() as room:
@@ -297,7 +298,7 @@ def test_the_longest_match():
 
 
 def check_as_read(built):
-    """The stream is the one that the reader finds, or its line is noted."""
+    """Checks that `stream` prints what the reader here finds, or notes the reader's line."""
     ran, _, _ = ran_over(built, "stream")
     try:
         check(ran, 0, compressed.read(built))
@@ -306,7 +307,7 @@ def check_as_read(built):
 
 
 def test_every_prefix_of_a_unit():
-    """Its length says that it ends before each of its bytes."""
+    """The unit's length says that it ends before each of its bytes in turn."""
     built = crafted(EACH_KIND)
     whole = built.streams[0]
     for length in range(len(whole)):
@@ -315,7 +316,8 @@ def test_every_prefix_of_a_unit():
 
 
 def test_every_flipped_byte_of_a_unit():
-    """Of its length, its bytes and the first ones of the padding: one bit, and then all. Where it still is a stream, the checksum tells."""
+    """Flips one bit, and then all bits, of each byte of the length, the compressed bytes and the start of the padding. If the bytes still are a
+    valid stream, the checksum reports it."""
     built = crafted(EACH_KIND)
     page = built.blocks[built.places[1]]
     for at in range(8 + len(built.streams[0]) + 4):
@@ -330,7 +332,7 @@ def test_lengths_that_no_unit_has():
         built = twin(Built(600))
         built.put_length(k, length)
         check_unread(built, f"{built.place(k)}: length {length}")
-    # The first page of the second unit stands after the first map.
+    # Here the first page of the second unit comes after the first map.
     built = twin(Built(958), packed=stored_first(15))
     built.put_length(29, 0)
     check_unread(built, "unit 30 map 1 block 1 entry 510: length 0")
@@ -339,7 +341,7 @@ def test_lengths_that_no_unit_has():
     check_unread(built, f"unit 31 map 2 block {built.maps[1]} entry 0: length 0")
 
 
-# A stream after the literals of a first run, the byte of the fault and why it is none.
+# The rest of a stream after the literals of a first run, the byte of its fault, and the reason.
 FAULTS = [
     (bytes([17]), 4, lzo1x.TOO_SHORT),
     (b"", 4, lzo1x.TOO_SHORT),
@@ -364,7 +366,7 @@ def test_faults_of_streams():
 
 
 def test_units_of_other_sizes():
-    """A unit of a page too few, of a byte too few, and of one too many."""
+    """A unit that is a page too short, a byte too short, and a byte too long."""
     for k, size in [(0, UNIT), (18, 26 * PAGE)]:
         for less in [PAGE, 1]:
             built = twin(Built(600))
@@ -392,7 +394,7 @@ def test_checksums():
     whole = built.checksum
     built.put(0, 4060, struct.pack("<I", whole ^ 1))
     check_unread(built, f"checksum 0x{whole ^ 1:08x}, but the units have 0x{whole:08x}")
-    # A byte of a page, in a stream that is one.
+    # A wrong byte of a page, in a stream that is still valid.
     built = twin(Built(600), packed=stored_first(19))
     built.put_bytes(18, 3000, b"\0")
     try:
@@ -400,7 +402,7 @@ def test_checksums():
         check_same("a reading of it", "whole", "unread")
     except Unread as line:
         check_unread(built, str(line))
-    # Without the flag it isn't looked at.
+    # Without the flag the checksum isn't looked at.
     built = twin(Built(600), flags=0)
     built.put(0, 4060, struct.pack("<I", 12345))
     check_findings(built)
@@ -456,7 +458,7 @@ def test_damages_of_the_header_and_the_info_page():
 
 
 def test_what_is_wrong_inside_the_units():
-    """The number pages of a compressed image are looked at as those of a plain one, and told in the same lines."""
+    """The number pages of a compressed image are checked as those of a plain one, and reported in the same lines."""
     changes = [
         lambda built: built.put_word(built.places[2], 41, 552),
         lambda built: (built.put_word(built.places[1], 7, 2**52), built.put_word(built.places[2], 41, 552)),
@@ -488,7 +490,7 @@ def test_discard():
 
 
 def test_a_file_that_ends_early():
-    """A copy that is shorter than its area."""
+    """A copy of an area that is shorter than the area."""
     built = twin(Built(600), packed=stored_first(2))
     for count in [1, 2, 3, 20, 40, 80]:
         built.count = count
@@ -496,7 +498,7 @@ def test_a_file_that_ends_early():
 
 
 def check_closed(built, command, *rest):
-    """With each set of closed standard streams the command fails just where its output is closed, and leaves the area."""
+    """With each set of closed standard streams the command fails if and only if its output is closed, and leaves the area as it was."""
     with tempfile.TemporaryDirectory() as room:
         path = pathlib.Path(room) / "area"
         built.write(path)

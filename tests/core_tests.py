@@ -1,6 +1,6 @@
-"""What `swsusp_image core` writes of an image: the file is compared with one that is put together here, from elf.h's structures.
+"""What `swsusp_image core` writes of an image: the file is compared with one that is put together here from elf.h's structures.
 
-`readelf` and `gdb` read it too, where they are there.
+If `readelf` and `gdb` are installed, they read it too.
 """
 import pathlib
 import shutil
@@ -18,7 +18,7 @@ PT_LOAD, PT_NOTE, PN_XNUM = 1, 4, 0xFFFF
 
 
 def runs_of(frames):
-    """Neighbours in a row, each (first, how many)."""
+    """Returns the runs of neighbouring numbers, each as (first, how many)."""
     runs = []
     for p in frames:
         if runs and p == sum(runs[-1]):
@@ -33,7 +33,7 @@ def program_header(kind, flags, offset, address, size, align):
 
 
 def core_head(machine, info, frames):
-    """What lies before the pages of these page frames, whose image has this info page."""
+    """Returns what comes before the pages of these page frames in the core file of an image with this info page."""
     runs = runs_of(sorted(frames))
     count = len(runs) + 1
     note_at = 64 + 56 * count
@@ -52,12 +52,12 @@ def core_head(machine, info, frames):
 
 
 def core_file(machine, info, pages):
-    """The core file of pages by their page frames."""
+    """Returns the core file of these pages, which are given by their page frames."""
     return core_head(machine, info, pages) + b"".join(pages[p] for p in sorted(pages))
 
 
 def numbered(built):
-    """The page frames of an image that is built, with the page of each."""
+    """Returns the page of each page frame of an image."""
     count = struct.unpack_from("<Q", built.blocks[built.places[0]], 416)[0]
     listed = -(-count // 512)
     words = b"".join(built.blocks[b] for b in built.places[1 : 1 + listed])
@@ -65,7 +65,7 @@ def numbered(built):
 
 
 def spread(built, step):
-    """The same image of each step-th page frame."""
+    """Spreads the image's page frames apart: they become the first multiples of `step`."""
     for i in range(len(numbered(built))):
         built.put_word(built.places[1 + i // 512], i % 512, i * step)
     return built
@@ -94,7 +94,7 @@ def test_an_image_of_many_runs():
 
 
 def test_more_program_headers_than_the_file_header_can_count():
-    """Each page frame is a run of its own. The pages are holes of the file, and only what lies before them is read."""
+    """Each page frame is a run of its own. The pages are holes of the file, and only what comes before them is read."""
     for saved in [PN_XNUM - 2, PN_XNUM - 1]:
         built = spread(Built(saved), 2)
         head = core_head(0, built.blocks[built.places[0]], range(0, 2 * saved, 2))

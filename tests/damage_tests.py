@@ -1,8 +1,8 @@
-"""Damaged images of both formats. Of each a resume tells its cause, whichever kernels are accepted, and another one that no image is there
-any more; `swsusp_machine check` foretells both, and leaves the disk.
+"""Damaged images of both formats. A resume reports the cause, whichever kernels are accepted, and a second resume finds no image any more.
+`swsusp_machine check` foretells both, and leaves the disk as it is.
 
-A machine of scripts hibernates by its dump. The map is in block 1, the info page in block 2, the number page in block 3, and page frames 0 to
-6 and 10 are in blocks 4 to 11; without pages of zeros, as those of page frames 5 and 6 are, 0 to 4 and 10 are in blocks 4 to 9.
+A script's machine hibernates by its dump. The map is in block 1, the info page in block 2, the number page in block 3, and page frames 0 to
+6 and 10 are in blocks 4 to 11. Without pages of zeros, which page frames 5 and 6 are, page frames 0 to 4 and 10 are in blocks 4 to 9.
 """
 from dump_tests import hibernate, inspect, resume
 from harness import check_line, check_refused, check_same, run
@@ -10,17 +10,17 @@ from inputs import SCRIPTED, area, beginning_with
 
 PLAIN, SKIPS_ZEROS = (), ("--skip-zeros",)
 
-# A loader that has all page frames but those of the tables.
+# A loader in which all page frames but those of the tables are free.
 LOADER = SCRIPTED.loader(7)
 
 ANY_KERNEL = [(), ("--any-kernel",)]
 
-# Of one that was given up.
+# The note on an image that was given up.
 GONE = "no image"
 
 
 def check_foretold(swap, note, options=(), dump=LOADER):
-    """A warning may stand before it, that the first map lies beyond the file."""
+    """Checks what `swsusp_machine check` foretells. A warning that the first map lies beyond the file may come before it."""
     before = swap.bytes()
     status, out, told = run("swsusp_machine", "check", *options, swap.path, stdin=dump)
     check_same("what is foretold", (status, out, told.splitlines()[-1]), (1, b"", note))
@@ -28,7 +28,7 @@ def check_foretold(swap, note, options=(), dump=LOADER):
 
 
 def check_damaged(form, changes, note, again=GONE, kernels=ANY_KERNEL, dump=SCRIPTED.saved(), saved=8):
-    """The image, changed so, is refused with this note, and with this one at the second time."""
+    """Checks that the image with these changes is refused with `note`, and the second time with `again`."""
     for options in kernels:
         with area(3000) as swap:
             check_line(hibernate(swap, dump, *form), f"hibernated {saved}")
@@ -69,7 +69,7 @@ def test_counts_and_numbers():
 
 
 def test_headers_maps_and_counts_without_zeros():
-    """The 8 numbers take a page, and 6 pages have data."""
+    """The 8 numbers take a page, and 6 page frames have data."""
     check_table(SKIPS_ZEROS, [
         ([(0, 4064, 0)], "no chain"),
         ([(0, 4064, 3001)], "bad block 3001"),
@@ -84,7 +84,7 @@ def test_headers_maps_and_counts_without_zeros():
 
 
 def test_numbers_without_zeros():
-    """With a ninth number the end is read as one, without its mark."""
+    """With a ninth number the end value is read as a number, without its mark."""
     check_table(SKIPS_ZEROS, [
         ([(2, 424, 9)], "bad counts 8 9"),
         ([(2, 424, 7)], "bad counts 8 7"),
@@ -97,7 +97,8 @@ def test_numbers_without_zeros():
 
 
 def test_chains_that_end():
-    """Images of two maps: of 597 page frames, and, without pages of zeros, of 520, of which 518 have data. The first map's link is damaged."""
+    """Images with two maps: one of 597 page frames, and one without pages of zeros of 520 page frames, 518 of which have data. The first map's
+    link is damaged."""
     pages = {**SCRIPTED.loader_pages(520), **{p: beginning_with(5) for p in range(7, 520)}}
     for form, dump, saved in [(PLAIN, SCRIPTED.loader(597), 597), (SKIPS_ZEROS, SCRIPTED.dump(pages), 520)]:
         check_table(form, [
@@ -108,13 +109,13 @@ def test_chains_that_end():
 
 
 def test_images_that_are_compressed():
-    """Of these alone the disk is as before, and each resume says the same."""
+    """Only these refusals leave the disk as it was, so that each resume says the same."""
     for form, flags in [(PLAIN, 0), (SKIPS_ZEROS, 256)]:
         check_damaged(form, [(0, 4072, flags)], f"compressed {flags}", f"compressed {flags}")
 
 
 def test_a_damaged_slot_table():
-    """The restored slot table says that slot 0 is free. A script's resume tells it, but the command restores any memory."""
+    """The restored slot table says that slot 0 is free. A script's resume reports that, but the command restores any memory."""
     for form in [PLAIN, SKIPS_ZEROS]:
         with area(3000) as swap:
             hibernate(swap, SCRIPTED.saved(), *form)
@@ -123,8 +124,8 @@ def test_a_damaged_slot_table():
             check_same("status and note", (status, note), (0, ""))
 
 
-# Images of another kernel: the version code; of the sysname the first byte is 0; the release begins with `7.1.`, the version is `#2`, the
-# machine `plann`. Of two the first is told.
+# Images of another kernel: another version code; a sysname whose first byte is 0; a release that begins with `7.1.`; the version `#2`; and the
+# machine `plann`. If two differ, the first is reported.
 OTHER_KERNELS = [
     ([(2, 392, 393473)], "mismatch version code"),
     ([(2, 0, 0x756E6900)], "mismatch sysname"),
@@ -141,7 +142,7 @@ def test_other_kernels():
 
 
 def test_any_kernel():
-    """The nodename and the domainname are compared by no resume. With any kernel an image in which all of them differ is restored as well."""
+    """No resume compares the nodename and the domainname. If any kernel is accepted, an image in which all of the names differ is restored too."""
     for form in [PLAIN, SKIPS_ZEROS]:
         with area(3000) as one, area(3000) as other:
             for swap in [one, other]:
@@ -155,7 +156,7 @@ def test_any_kernel():
 
 
 def test_too_few_page_frames():
-    """The loader has one page frame fewer than are needed: the pages with data, one for their list, and one for bouncing."""
+    """The loader has one page frame fewer than are needed: those for the pages with data, one for their list, and one for bouncing."""
     for form, used, note in [(PLAIN, 4087, "too few loader frames 9 need 10"), (SKIPS_ZEROS, 4089, "too few loader frames 7 need 8")]:
         for options in ANY_KERNEL:
             with area(3000) as swap:
@@ -166,8 +167,8 @@ def test_too_few_page_frames():
                     check_refused(resume(swap, dump, *options), why)
 
 
-# A marked header block whose original signature is the mark's own: taken back it is marked still. That an image is resumed at most once has
-# the premise that no such block is handed in. What is wrong with the image is told all the same.
+# A marked header block whose original signature is the mark itself: once the mark is cleared, the block is still marked. That an image is
+# resumed at most once has the premise that no such block is handed in. What is wrong with the image is reported all the same.
 
 # S1SUSPEND and a zero byte from 4076 on, and the first two bytes of the mark after them, which are the same.
 MARKED = [(0, 4076, 0x55533153), (0, 4080, 0x4E455053), (0, 4084, 0x31530044)]

@@ -8,7 +8,7 @@ from core_tests import core_file, runs_of, told
 from harness import Mismatch, check, check_refused, check_same, programs, run
 from inputs import EXAMPLE, FREE, NAMES, PAGE, ZERO_PAGE, Machine, area, page
 
-# How an info page of the machine of tests begins, and where a dump has its number of zones, the names and the zones.
+# The beginning of an info page of the machine of tests, and the places of a dump's number of zones, names and zones.
 IDENTITY = b"".join(name.ljust(65, b"\0") for name in NAMES) + struct.pack("<HI", 0, 393472)
 ZONE_COUNT, NAMES_AT, ZONES_AT = 28, 32, 424
 
@@ -20,19 +20,19 @@ def core(dump):
 
 
 def wanted(pages, frames, machine=0, identity=IDENTITY):
-    """The core file of these page frames, of which some have pages and the others are all zero."""
+    """Returns the core file of these page frames, some of which have pages; the others are all zero."""
     return core_file(machine, identity, {p: pages.get(p, ZERO_PAGE) for p in frames})
 
 
 def check_core(dump, pages, frames, **identity):
-    """The core file of a dump has just these page frames."""
+    """Checks that the core file of a dump has exactly these page frames."""
     status, out, note = core(dump)
     if (status, out, note) != (0, wanted(pages, frames, **identity), ""):
         raise Mismatch(f"a core of {len(frames)} page frames: status {status}, {len(out)} bytes and {note!r}")
 
 
 def test_core_of_a_saved_machine():
-    """The tables are in use, the slot table's second page frame of zeros too, and page frame 10 is a task's."""
+    """The tables are in use, even the slot table's second page frame, which is all zero; and page frame 10 is a task's."""
     check_core(EXAMPLE.saved(), EXAMPLE.saved_pages(), [0, 1, 2, 3, 10])
 
 
@@ -42,14 +42,14 @@ def test_page_frames_in_use_that_are_all_zero():
 
 
 def test_free_page_frames_that_hold_bytes():
-    """Page frame 50 is free and holds nines, 2047 ends in one byte, and 60 is free and all zero."""
+    """Three free page frames: 50 holds nines, 2047 is zero but for its last byte, and 60 is all zero."""
     pages = {**EXAMPLE.loader_pages(4), 50: NINES, 2047: bytes(PAGE - 1) + b"\1"}
     check_core(EXAMPLE.dump(pages), pages, [0, 1, 2, 3, 50, 2047])
     check_core(EXAMPLE.dump({**pages, 60: ZERO_PAGE}), pages, [0, 1, 2, 3, 50, 2047])
 
 
 def test_a_machine_of_many_runs():
-    """Above the tables each second page frame is in use, whatever its other flags are."""
+    """Above the tables every second page frame is in use, whatever its other flags are."""
     for frames in [2048, 5000, 65536]:
         machine = Machine(frames)
         used = [*range(machine.tables), *range(machine.tables + 1, frames, 2)]
@@ -61,7 +61,7 @@ def test_a_machine_of_many_runs():
 
 
 def test_page_frames_of_no_zone():
-    """Page frames 16 to 1023 are of no zone, so what the frame table has for them counts for nothing."""
+    """Page frames 16 to 1023 are in no zone, so their entries in the frame table don't count."""
     for rest in [0, FREE]:
         entries = {**{p: rest for p in range(16, 1024)}, **{p: FREE for p in range(4, 16)}, **{p: FREE for p in range(1024, 2048)}, 1030: 0}
         pages = {**EXAMPLE.frame_table(0, entries), **EXAMPLE.saved_pages()}
@@ -84,7 +84,7 @@ def test_machines():
 
 
 def test_core_of_the_image_of_the_same_machine():
-    """All page frames that are in use are saved, and no other holds a byte: so the image's core file is that of the dump."""
+    """All page frames in use are saved, and no other page frame holds a byte that isn't zero, so the image's core file is that of the dump."""
     for machine in [Machine(), Machine(frames=3000, slots=5000)]:
         saved = machine.saved(cached=range(100, 140))
         with area(machine.slots - 1) as one:

@@ -1,5 +1,5 @@
 """A machine hibernates from its memory dump onto a swap file, and is resumed into a loader's dump: whole cycles, the bytes of an image, images
-of a wanted size, what is refused of a whole dump, and images of another machine."""
+of a wanted size, refusals of valid dumps, and images of another machine."""
 import struct
 
 from harness import check, check_line, check_refused, check_same, run
@@ -19,7 +19,7 @@ def inspect(swap, *options):
 
 
 def check_restored(ran, machine=EXAMPLE):
-    """The output is the dump of the restored machine, byte for byte."""
+    """Checks that the output is the dump of the restored machine, byte for byte."""
     check(ran, 0, machine.restored())
 
 
@@ -58,7 +58,7 @@ def test_a_second_cycle():
 
 
 def test_pages_of_zeros_are_left_out():
-    """Page frame 3 is all zero: the image has a page less, and the dump that comes of it is the same."""
+    """Page frame 3 is all zero: the image has one page less, and the restored dump is the same."""
     with area() as swap:
         check_line(hibernate(swap, EXAMPLE.saved(), "--skip-zeros"), "hibernated 5")
         check_line(inspect(swap), "area last 1599 bad 0 image 1 flags 258 hw -")
@@ -67,7 +67,7 @@ def test_pages_of_zeros_are_left_out():
 
 
 def test_over_a_swap_file():
-    """The header lies in block 50, the slots from block 100 on. The dump names the two extents, in 32 bytes more."""
+    """The header is in block 50, and the slots begin at block 100. The dump names the two extents, in 32 bytes more."""
     with disk(1699, header(1599), 50) as swap:
         check_line(hibernate(swap, OVER_FILE.saved()), "hibernated 5")
         check_line(inspect(swap, "--offset", 50), "area last 1599 bad 0 image 100 flags 2 hw -")
@@ -82,7 +82,7 @@ def test_over_a_swap_file():
 
 
 def words(*numbers):
-    """A page that begins with these 8-byte words."""
+    """Returns a page that begins with these 8-byte words."""
     return struct.pack(f"<{len(numbers)}Q", *numbers).ljust(PAGE, b"\0")
 
 
@@ -104,7 +104,7 @@ def test_the_bytes_of_an_image():
 
 
 def test_the_numbers_of_an_image_without_zeros():
-    """Page frames 5 and 6 are all zero: their numbers are marked, and their pages aren't there."""
+    """Page frames 5 and 6 are all zero: their numbers are marked, and they have no data pages."""
     with area(3000) as swap:
         check_line(hibernate(swap, SCRIPTED.saved(), "--skip-zeros"), "hibernated 8")
         check_same("the map", swap.block(1), words(*range(2, 10)))
@@ -113,8 +113,8 @@ def test_the_numbers_of_an_image_without_zeros():
 
 
 def test_where_a_second_map_lies():
-    """A map has 511 entries, for the info page, a page of numbers for each 512 page frames, and their pages. The next map lies in the slot
-    after the last of them; it is begun when the first one is full (swap_write_page, kernel/power/swap.c)."""
+    """A map has 511 entries: for the info page, for a number page for each 512 page frames, and for the saved pages. The next map is in the slot
+    after the last of these pages, and is begun when the first map is full (swap_write_page, kernel/power/swap.c)."""
     for saved, link, first in [(508, 0, None), (509, 513, 0), (510, 513, 514), (512, 513, 514), (513, 513, 514)]:
         with area(3000) as swap:
             check_line(hibernate(swap, SCRIPTED.loader(saved)), f"hibernated {saved}")
@@ -126,19 +126,19 @@ def test_where_a_second_map_lies():
 
 # Images of a wanted size: cached page frames are dropped before the machine hibernates.
 
-# The worked example's machine with ten page frames that are cached besides.
+# The worked example's machine, and ten page frames that are cached.
 CACHED = EXAMPLE.saved(cached=range(20, 30))
 
 
 def test_as_many_as_are_wanted():
-    """15 page frames are saveable: as many are saved as are wanted, but for those that aren't cached."""
+    """15 page frames are saveable. As many are saved as are wanted, but at least those that aren't cached."""
     for size, saved in [(2**64 - 1, 15), (15, 15), (14, 14), (7, 7), (5, 5), (0, 5)]:
         with area() as swap:
             check_line(hibernate(swap, CACHED, "--image-size", size), f"hibernated {saved}")
 
 
 def test_the_image_of_what_is_left():
-    """Where all of them are dropped, the disk is that of the machine that never had them, byte for byte."""
+    """If all cached page frames are dropped, the disk is that of the machine that never had them, byte for byte."""
     with area() as swap, area() as never:
         hibernate(swap, CACHED, "--image-size", 0)
         hibernate(never)
@@ -147,25 +147,25 @@ def test_the_image_of_what_is_left():
 
 
 def test_the_first_are_dropped():
-    """The page frames from below are dropped first: of the last one the page is in the image, after those that are no cache. The map lies in
-    block 1, the info page and the numbers in 2 and 3, then page frames 0, 1, 2, 10 and 29: 3 is all zero."""
+    """The lowest cached page frames are dropped first. Only the last one's page is in the image, after those of the page frames that aren't cached.
+    The map is in block 1, the info page and the numbers are in 2 and 3, then come page frames 0, 1, 2, 10 and 29: page frame 3 is all zero."""
     with area() as swap:
         check_line(hibernate(swap, CACHED, "--image-size", 6, "--skip-zeros"), "hibernated 6")
         check_same("block 8", swap.block(8), page({0: 29}))
 
 
-# What is refused of a whole dump.
+# Refusals of valid dumps.
 
 
 def check_closed(swap, dump, note):
-    """A hibernation is refused with this note, and leaves each block."""
+    """Checks that a hibernation is refused with this note, and leaves each block as it was."""
     before = swap.bytes()
     check_refused(hibernate(swap, dump), note)
     check_same("the disk", swap.bytes(), before)
 
 
 def test_over_an_image():
-    """No image is written over another, which can be resumed afterwards."""
+    """No image is written over another one, which can be resumed afterwards."""
     with area() as swap:
         hibernate(swap)
         check_closed(swap, EXAMPLE.saved(), "closed")
@@ -184,7 +184,7 @@ def test_over_another_area():
 
 
 def test_bad_slots_that_differ():
-    """Slot 7 is bad in the dump: so it is to be in the area."""
+    """Slot 7 is bad in the dump, so it must be bad in the area too."""
     dump = EXAMPLE.saved(slots=page({0: BAD, 28: BAD}))
     for bad in [8, 9]:
         with disk(1600, header(1599, [bad])) as swap:
@@ -194,13 +194,13 @@ def test_bad_slots_that_differ():
 
 
 def test_too_few_slots():
-    """7 pages, and 1026 slots that are to stay free. Of 1033 slots the header's can't be used."""
+    """7 pages, and 1026 slots that must stay free. Of 1033 slots the header's can't be used."""
     with area(1032) as swap:
         check_closed(swap, Machine(slots=1033).saved(), "no slots 1032 need 1033")
 
 
 def test_too_few_loader_frames():
-    """5 pages wait, with a page frame for their list and one for bouncing. The image is gone when that is found."""
+    """5 pages wait, and need one page frame for their list and one for bouncing. The image is gone when the lack is found."""
     with area() as swap:
         hibernate(swap)
         check_refused(resume(swap, EXAMPLE.loader_with_nines(2042)), "too few loader frames 6 need 7")
@@ -210,7 +210,7 @@ def test_too_few_loader_frames():
 
 
 def test_compressed_images():
-    """Linux compresses images, unless it is told not to. Nothing is written."""
+    """Linux compresses images unless it is told not to. Nothing is written."""
     with area() as swap:
         swap.change((0, 4064, 1), (0, 4072, 4))
         swap.write(0, swap.block(0)[:4076] + b"SWAPSPACE2S1SUSPEND\0")
@@ -221,13 +221,13 @@ def test_compressed_images():
             check_same("the disk", swap.bytes(), before)
 
 
-# A machine too small, and input that is no dump.
+# A machine that is too small, and input that is no dump.
 
 TINY = Machine(frames=4, slots=2)
 
 
 def tiny_dump():
-    """Page frames 0 to 3, two slots, the tables in page frames 0 and 1, and one record."""
+    """Returns a dump with page frames 0 to 3, two slots, the tables in page frames 0 and 1, and one record."""
     return TINY.dump({1: page({0: BAD})})
 
 
@@ -254,11 +254,11 @@ def test_what_is_no_dump():
             check_same("the disk", swap.bytes(), before)
 
 
-# Of another machine.
+# Images of another machine.
 
 
 def signed(hw_sig):
-    """The worked example's machine with a hardware signature."""
+    """Returns the worked example's machine with a hardware signature."""
     return Machine(hw_sig=hw_sig)
 
 

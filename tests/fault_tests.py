@@ -1,18 +1,18 @@
-"""Calls of the disk that fail, wherever they stand: in a boot, a hibernation, its undo, a settling and a resume."""
+"""Calls of the disk that fail at any point: in a boot, a hibernation, its undo, a settling and a resume."""
 from harness import ALL, NONE, Play, check_transcript, counts
 
 # A machine with page frames 0 to 4095, the tables in the first seven of them, and 3001 slots, each on the block of its number.
 MACHINE = "zone 0 4096\narea 3000\n"
 
-# How many steps a hibernation has, and a resume: of the tables and the task's page frame 8 pages are saved, so the image has 10 pages and
+# The number of steps of a hibernation, and of a resume: 8 page frames are saved, the tables' and the task's, so the image has 10 pages and
 # a map.
 STEPS = 15
 
-# More steps than an operation and its undo have.
+# More steps than an operation and its undo take.
 ALL_STEPS = 18
 
 
-# Which calls an arm lets fail.
+# The calls that an arm lets fail.
 
 
 def test_fault_in_boot():
@@ -74,8 +74,8 @@ def test_a_later_arm_replaces_the_earlier_one():
     """)
 
 
-# Every call of a hibernation, and every call of a resume, fails once; and with it the next one. Behind the cut the image is resumed once,
-# or there is none.
+# Every call of a hibernation, and every call of a resume, fails once, alone and together with the next one. After the cut the image is resumed
+# once, or none exists.
 
 
 class Faults(Play):
@@ -90,40 +90,40 @@ class Faults(Play):
         self.turn("claim 3 10\nstore 3 10 0 77", "ok", "ok")
 
     def ends(self, before, first, after, end):
-        """The steps before the one that fails, how the operation ends, and that nothing is left to do."""
+        """Expects the steps before the one that fails, the end of the operation, and then nothing left to do."""
         idle = ["idle"] * (ALL_STEPS - (first - 1) - len(end))
         self.turn(f"steps core {ALL_STEPS}", *counts(before, 1, first - 1, after), *end, *idle)
 
     def fails_to_hibernate(self, first, count, pick, end):
-        """A hibernation whose calls from number `first` on fail, and how it ends. Of those that write, the sectors of the pick take their
+        """A hibernation in which `count` calls from number `first` on fail, and its end. If such a call is a write, the sectors of the pick take their
         bytes all the same."""
         self.boots()
         self.turn(f"hibernate\narm {first} {count} {pick}", "more 0 of 15", "ok")
         self.ends("more ", first, " of 15", end)
 
     def fails_to_resume(self, first, count, pick, end):
-        """A hibernation that no call disturbs, then a resume of its image whose calls fail so, and how that ends."""
+        """An undisturbed hibernation, and then a resume of its image in which `count` calls from number `first` on fail, and the end of that resume."""
         self.boots()
         self.turn("hibernate\nsteps core 15", *counts("more ", 0, STEPS - 1, " of 15"), "hibernated 8")
         self.turn(f"resume\narm {first} {count} {pick}", "loading 0", "ok")
         self.ends("loading ", first, "", [end])
 
     def is_found(self, image):
-        """It is resumed where an image is there, and then the power is cut."""
+        """If an image exists, the machine is resumed. Then the power is cut."""
         rest = [*counts("loading ", 2, STEPS - 1), "resumed 8"] if image else ["no image", *["idle"] * (STEPS - 2)]
         self.turn("resume\nsteps core 15", "loading 0", "loading 1", *rest)
         self.turn("cut 0", "cut")
 
     def is_resumed(self, cut, image):
-        """The power is cut, and what is there is resumed, twice. No call fails any more."""
+        """The power is cut, and the machine is resumed twice, from whatever is on the disk. No call fails any more."""
         self.turn(f"arm 1 0 0\ncut {cut}", "ok", "cut")
         self.is_found(image)
         self.is_found(False)
 
 
 def end_of_hibernation(first, count):
-    """How a hibernation ends whose call number `first` fails, and with it the next one where two do. The first 11 write pages and the map;
-    then come a sync, the read of the header block, the write of the mark and its sync."""
+    """Returns the end of a hibernation whose call number `first` fails, and the next call too if `count` is 2. The first 11 calls write pages and
+    the map; then come a sync, the read of the header block, the write of the mark and its sync."""
     undone = {14: "write", 15: "sync"}
     if first in undone:
         kind = undone[first]
@@ -133,8 +133,8 @@ def end_of_hibernation(first, count):
 
 
 def check_hibernations(count, pick):
-    """No hibernation leaves an image: where the mark was written, it was taken back, or the write that failed has taken it back all the
-    same."""
+    """Checks that no such hibernation leaves an image: if the mark was written, it was cleared again, if only by a write that failed and
+    reached the sector all the same."""
     play = Faults()
     for first in range(1, STEPS + 1):
         for cut in [ALL, NONE]:
@@ -152,7 +152,7 @@ def test_each_two_calls_of_a_hibernation():
 
 
 def test_each_moment_behind_a_call_that_fails():
-    """The power is cut after the step that failed, and after each step of its undo: the image is there only where the sync after the mark
+    """The power is cut after the step that failed, and after each step of its undo. The image exists only if the sync after the mark
     has failed and the cut keeps the mark, until the undo has written."""
     play = Faults()
     for first in range(1, STEPS + 1):
@@ -168,8 +168,8 @@ def test_each_moment_behind_a_call_that_fails():
 
 
 def test_undo_leaves_the_mark():
-    """A write that fails leaves every sector: the mark stays, and the undo's write, which fails too, leaves it. Without a sync the last bytes
-    are there only where the cut keeps them."""
+    """A write that fails leaves every sector as it was: the mark stays, since the undo's write fails too. Without a sync the last bytes
+    are on the disk only if the cut keeps them."""
     play = Faults()
     for cut, image in [(ALL, True), (NONE, False)]:
         play.fails_to_hibernate(15, 2, NONE, end_of_hibernation(15, 2))
@@ -177,7 +177,7 @@ def test_undo_leaves_the_mark():
     play.check()
 
 
-# How a resume ends whose call of this number fails: a sync, a read of the header block, its write, a sync, and then reads.
+# The end of a resume whose call of this number fails: a sync, a read of the header block, its write, a sync, and then reads.
 ENDS_OF_RESUMES = {
     1: "sync fault same",
     2: "read fault same",
@@ -188,8 +188,8 @@ ENDS_OF_RESUMES = {
 
 
 def is_there(first, written, keeps):
-    """Whether the image is there after a resume whose call number `first` failed, and a cut that keeps the last bytes of all sectors or of
-    none. Up to the read nothing was written. The write that takes the mark back has left every sector or none, and no sync followed."""
+    """Returns whether the image exists after a resume whose call number `first` failed, and a cut that keeps the last bytes of all sectors or of
+    none. Up to the read nothing was written. The write that clears the mark has reached every sector or none, and no sync followed."""
     return {1: True, 2: True, 3: not (written and keeps), 4: not keeps}.get(first, False)
 
 
@@ -228,7 +228,7 @@ HIBERNATES = """
     more 0 of 15
 """
 
-# The sync after the mark's write fails, and then the write that takes the mark back: the machine runs, and an image is perhaps held.
+# The sync after the mark's write fails, and then so does the write that clears the mark: the machine runs, and may hold an image.
 IS_UNSURE = HIBERNATES + """
     > arm 15 2 0
     ok
@@ -241,7 +241,7 @@ IS_UNSURE = HIBERNATES + """
 
 
 def test_undo_fails_settle():
-    """Settling takes it away."""
+    """A settling takes the image away."""
     check_transcript(IS_UNSURE, """
         > hibernate
         closed
@@ -257,7 +257,7 @@ def test_undo_fails_settle():
 
 
 def test_undo_succeeds():
-    """Only the sync fails: the undo takes the mark back, and nothing is held."""
+    """Only the sync fails: the undo clears the mark, and the machine holds no image."""
     check_transcript(HIBERNATES, """
         > arm 15 1 0
         ok
@@ -275,7 +275,7 @@ def test_undo_succeeds():
 
 
 def test_settling_fails():
-    """A call of a settling fails: what is held is perhaps held, the machine is closed to a hibernation, and it may be settled again."""
+    """A call of a settling fails: the machine may hold an image, is closed to a hibernation, and can be settled again."""
     check_transcript(IS_UNSURE, """
         > settle
         more 0 of 3

@@ -1,6 +1,6 @@
 """What `swsusp_machine from-core` makes of core files, which are put together here from elf.h's structures (core_tests).
 
-A core file of ours gives its machine's pages back, and one of another maker those of its segments.
+One of our own core files gives its machine's pages back; another maker's core file gives the pages of its segments.
 """
 import struct
 
@@ -11,7 +11,7 @@ PT_LOAD, PT_NOTE = 1, 4
 
 
 def file_header(count, place=64, **fields):
-    """An Elf64_Ehdr of a core file with so many program headers, but for the fields that are given."""
+    """Returns an Elf64_Ehdr of a core file with the given number of program headers; named fields replace its own."""
     has = {"magic": b"\x7fELF", "bits": 2, "order": 1, "ident": 1, "kind": 4, "machine": 62, "version": 1, "size": 56, **fields}
     head = has["magic"] + bytes([has["bits"], has["order"], has["ident"]]) + bytes(9)
     return head + struct.pack("<HHIQQQIHHHHHH", has["kind"], has["machine"], has["version"], 0, place, 0, 0, 64, has["size"], count, 64, 0, 0)
@@ -26,7 +26,7 @@ def from_core(core, *words):
 
 
 class Read:
-    """What a dump says (docs/FORMATS.md)."""
+    """The contents of a dump (docs/FORMATS.md)."""
 
     def __init__(self, dump):
         self.slots, self.frame_table, self.slot_table, self.signature, zones = struct.unpack_from("<5I", dump, 12)
@@ -50,7 +50,7 @@ def read(core, *words):
 
 
 def check_pages(machine, pages):
-    """Just these page frames hold bytes, beside those of the tables."""
+    """Checks that exactly these page frames, and those of the tables, hold bytes."""
     tables = set(range(machine.frame_table, machine.frame_table + -(-machine.zones[0][1] // 1024)))
     tables |= set(range(machine.slot_table, machine.slot_table + -(-machine.slots // 1024)))
     check_same("the pages", {p: page for p, page in machine.pages.items() if p not in tables}, pages)
@@ -65,7 +65,7 @@ def test_a_core_of_ours_gives_its_pages_back():
 
 
 def test_a_core_of_another_maker():
-    """The kernel's text lies first, inside the last segment; the others begin and end inside page frames; there are holes."""
+    """The kernel's text comes first, inside the last segment; the others begin and end inside page frames; there are holes."""
     first, second = bytes(range(1, 251)) * 20, b"\xaa\x55" * 2250
     table = segment(232, 20 * PAGE + 8, 100, 100) + segment(332, 2 * PAGE + 100, 5000, 5000) + segment(5409, 20 * PAGE, 4500, 3 * PAGE)
     core = file_header(3) + table + bytes([7]) * 100 + first + b"#" * 77 + second + b"rest"

@@ -15,13 +15,13 @@ NO_UUID = "uuid 00000000-0000-0000-0000-000000000000"
 
 
 def front(blocks, last_page, first_map, flags, *flag_names, hw_sig=0):
-    """What is shown of a header block and of the names."""
+    """Returns what `show` prints of a header block and of the names."""
     mark = [f"first_map {first_map}", f"flags {flags}", *(f"flag {name}" for name in flag_names), f"hw_sig {hw_sig}", "crc32 0"]
     return [f"blocks {blocks}", "image yes", "area swap", f"last_page {last_page}", "bad_pages 0", NO_UUID, *mark, *NAMES, *KERNEL]
 
 
 def check_image(file, machine, lines, *words, options=(), saved=()):
-    """A machine hibernates on the file; just these lines are shown of the image, and it is whole."""
+    """A machine hibernates on the file. Checks that exactly these lines are shown of the image, and that it is whole."""
     count = next(int(line.split()[1]) for line in lines if line.startswith("image_pages"))
     dump = machine.saved(cached=saved)
     check(run("swsusp", "hibernate", *words, file.path, stdin=dump), 0, f"hibernated {count}\n".encode())
@@ -85,5 +85,5 @@ def test_a_kernels_banner_is_found_in_a_core_file():
         file.flush()
         told = subprocess.run(["strings", "-t", "d", file.name], capture_output=True, text=True).stdout
         found = [line.split(None, 1) for line in told.splitlines() if "Linux version" in line]
-        # The note and the headers take the first page, and page frame 2 is the third of the pages.
+        # The note and the headers take the first page, and page frame 2 is the third of the pages after it.
         check_same("what strings finds", found, [[str(3 * PAGE + 100), banner[:-2].decode()]])

@@ -1,6 +1,6 @@
 """What `swsusp_image show --json` and `check --json` print of images that are written here by hand, and of real ones.
 
-The objects are written down here, from docs/FORMATS.md; each is also held to what the text form says.
+The objects are written down here, from docs/FORMATS.md. Each is also compared with what the text form says.
 """
 import json
 import pathlib
@@ -14,10 +14,10 @@ from image_tests import Built, ran_over
 from linux_tests import PLAIN, area
 from lzo1x import compress, store
 
-# Up to here a double holds each whole number.
+# Up to this number a double holds each whole number.
 MOST = 2**53
 
-# The members that may be many.
+# The members that can have several values.
 ARRAYS = ["bad_page", "flag", "block_run", "frame_run"]
 
 AREA = {"image": True, "area": "swap", "last_page": 12, "bad_pages": 0, "uuid": "00000000-0000-0000-0000-000000000000"}
@@ -37,7 +37,7 @@ COUNTS = {"memory_pages": 65536, "image_pages": 8, "stream_pages": 10, "block_ru
 
 
 def printed(built, command, *options):
-    """The status and the object, which is one line with each member once, of a command that leaves the area as it was."""
+    """Returns the status and the printed object of a command, and checks that the command leaves the area as it was."""
     (status, out, note), before, after = ran_over(built, command, "--json", *options)
     check_same("the note", note, "")
     check_same("the area", after, before)
@@ -45,7 +45,7 @@ def printed(built, command, *options):
 
 
 def object_of(out):
-    """The object that was printed. No member comes twice."""
+    """Returns the object that was printed, and checks that it is one line and that no member comes twice."""
     check_same("the end of the line", (out.count(b"\n"), out[-1:]), (1, b"\n"))
     pairs = json.loads(out, object_pairs_hook=lambda pairs: pairs)
     check_same("the members", len({key for key, _ in pairs}), len(pairs))
@@ -55,7 +55,7 @@ def object_of(out):
 
 
 def check_shown(built, *parts, options=(), status=0):
-    """The object has just these members, in this order."""
+    """Checks that the object has exactly these members, in this order."""
     wanted = {key: value for part in parts for key, value in part.items()}
     got = printed(built, "show", *options)
     check_same("the object", got, (status, wanted))
@@ -90,20 +90,20 @@ def test_show_of_bad_pages_runs_and_flags():
 
 
 def counted(**facts):
-    """The counts with these facts, in the order in which they are told."""
+    """Returns the counts with these facts, in the order in which they are printed."""
     order = ["memory_pages", "image_pages", "stream_pages", "block_run", "maps", "units", "compressed_bytes", "expanded_bytes", "frame_run"]
     return {key: {**COUNTS, **facts}[key] for key in order}
 
 
 def test_show_of_compressed_images():
-    """The blocks are those of the area, the page frames and the counts those of the image."""
+    """The blocks are those of the area; the page frames and the counts are those of the image."""
     built = twin(Built(8))
     mark = {"first_map": 1, "flags": 4, "flag": ["crc32"], "hw_sig": 0, "crc32": built.checksum}
     check_same("the chain", (built.maps, built.places), ([1], [2, 3]))
     # One unit of one page, which expands to the number page and 8 others.
     units = {"units": 1, "compressed_bytes": 4096, "expanded_bytes": 9 * 4096}
     check_shown(built, {"blocks": 13}, AREA, mark, GENERIC, counted(block_run=[[1, 3]], **units))
-    # The info page, three units of 33 pages and one of one: bad pages part their blocks.
+    # The info page, three units of 33 pages and one of one page: the bad pages part their blocks.
     built = twin(Built(120), packed=lambda k, unit: store(unit) if k < 3 else compress(unit), bad=(40, 70), first=30, flags=1)
     check_same("the chain", (built.maps, built.places), ([30], [*range(31, 40), *range(41, 70), *range(71, 71 + 63)]))
     check_shown(
@@ -118,7 +118,7 @@ def test_show_of_compressed_images():
 
 
 def test_show_of_damaged_compressed_images():
-    """What the header block says, alone."""
+    """Only what the header block says is shown."""
     built = twin(Built(8))
     mark = {"first_map": 1, "flags": 4, "flag": ["crc32"], "hw_sig": 0, "crc32": built.checksum}
     built.put_length(0, 0)
@@ -210,7 +210,7 @@ def test_check_of_compressed_images():
 
 
 def test_check_of_damaged_compressed_images():
-    """The first that is wrong, both of two names without an end, or what is wrong with the pages of the plain image."""
+    """The first fault of the area or a unit is found; of names without an end, both; and what is wrong with the pages of the plain image."""
     built = twin(Built(600))
     built.put(0, 1028, struct.pack("<I", 700))
     built.count = 700
@@ -236,7 +236,7 @@ def test_check_of_damaged_compressed_images():
 
 
 def value_of(key, text):
-    """The value of a line as JSON, by its text."""
+    """Returns the value of a line as JSON, by its text."""
     numbers = [int(word) if int(word) <= MOST else word for word in text.split()] if text.replace(" ", "").isdigit() else []
     if key == "image":
         return text == "yes"
@@ -247,7 +247,7 @@ def value_of(key, text):
 
 
 def members_of(lines):
-    """The members that lines of the text form are."""
+    """Returns the members that stand for the lines of the text form."""
     members = {}
     for line in lines:
         key, text = line.split(" ", 1)
@@ -274,7 +274,7 @@ def test_both_forms_of_real_kernels_images():
 
 
 def test_both_forms_of_many_findings():
-    # Each second entry of the first map is 0.
+    # Every second entry of the first map is 0.
     built = Built(1018)
     for entry in range(0, 511, 2):
         built.put_entry(1, entry, 0)

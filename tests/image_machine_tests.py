@@ -1,4 +1,4 @@
-"""What `swsusp_image loader` makes of images: dumps that are read here by hand, by the tables of docs/FORMATS.md, and handed to `swsusp resume`."""
+"""What `swsusp_image loader` makes of images: dumps that are read here by the tables of docs/FORMATS.md, and handed to `swsusp resume`."""
 import pathlib
 import struct
 import tempfile
@@ -11,7 +11,7 @@ from linux_tests import area as kernels_area
 
 
 class Read:
-    """A dump without extents, or with them."""
+    """A dump, with or without extents."""
 
     def __init__(self, data):
         self.magic = data[:8]
@@ -55,7 +55,7 @@ def made(ran):
 
 
 def check_fresh(dump, bad=(0,)):
-    """The tables alone are in use, the bad slots are bad, and all other page frames and slots are free."""
+    """Checks that only the tables are in use, that the bad slots are bad, and that all other page frames and slots are free."""
     valid = {p for first, count in dump.zones for p in range(first, first + count)}
     frames = dump.frames()
     check_same("the page frames in use", [p for p in sorted(valid) if frames[p] != FREE], sorted(dump.tables()))
@@ -65,7 +65,7 @@ def check_fresh(dump, bad=(0,)):
 
 
 def test_the_image_of_a_dump():
-    """The loader has the dump's hardware, but for its tables: they lie after those of the image, whose page frames are 0 to 3 and 10."""
+    """The loader has the dump's hardware, except for its tables: they come after those of the image, whose page frames are 0 to 3 and 10."""
     with area() as file:
         check_same("a hibernation", run("swsusp", "hibernate", file.path, stdin=EXAMPLE.saved())[0], 0)
         before = file.bytes()
@@ -119,7 +119,7 @@ def ran_over(built, *options):
 
 
 class Sized(Built):
-    """An image whose info page counts so many page frames."""
+    """An image whose info page says that the machine has `pages` page frames."""
 
     def __init__(self, pages, saved=8, **settings):
         super().__init__(saved, **settings)
@@ -139,7 +139,7 @@ def test_limits():
 
 
 def test_the_least_machine():
-    """Page frames 0 to 7 are saved: as many more, a list frame, a bounce frame and two for the tables."""
+    """Page frames 0 to 7 are saved. The loader needs as many more, a list frame, a bounce frame and two for the tables."""
     check_refused(ran_over(Sized(11)), "free page frames 9: needed 10")
     dump = made(ran_over(Sized(12)))
     check_same("the tables", (dump.frame_table, dump.slot_table), (8, 9))
@@ -147,7 +147,7 @@ def test_the_least_machine():
 
 
 def test_tables_around_saved_page_frames():
-    """The frame table needs two page frames, and finds them after page frame 1; the slot table lies in page frame 0."""
+    """The frame table needs two page frames, and finds them after page frame 1; the slot table is in page frame 0."""
     built = Sized(2048, saved=1)
     built.put(built.places[1], 0, struct.pack("<Q", 1))
     dump = made(ran_over(built))
@@ -194,7 +194,7 @@ def test_words():
 
 
 def test_images_of_real_kernels():
-    """Into the loader that is made of its image the image of each kernel is resumed, its identity compared."""
+    """The image of each kernel is resumed into the loader that is made of it, and its identity is compared."""
     for name in PLAIN:
         with kernels_area(name) as (file, image):
             zones = gapless(image)
@@ -207,7 +207,7 @@ def test_images_of_real_kernels():
 
 
 def gapless(image):
-    """The zones of a machine with as many page frames as the image counts, among them all that it saves."""
+    """Returns the zones of a machine with as many page frames as the image counts, including all that it saves."""
     import image as reader
 
     return [tuple(zone) for zone in reader.Hardware(image).zones]

@@ -24,7 +24,7 @@ def words(numbers):
 
 
 class Built:
-    """An image of so many pages in an area, block by block: maps and pages from block 1 on, as Linux lays them on a fresh area."""
+    """An image of `saved` pages in an area, block by block: maps and pages from block 1 on, as Linux lays them out on a fresh area."""
 
     def __init__(self, saved, last=None, bad=(), first=1, header=0, flags=2):
         numbers = self.numbers = [p + p // 1000 for p in range(saved)]
@@ -66,7 +66,7 @@ class Built:
         return bytes(page)
 
     def put(self, b, at, data):
-        """Bytes in a block."""
+        """Writes bytes into a block."""
         page = bytearray(self.blocks[b])
         page[at : at + len(data)] = data
         self.blocks[b] = bytes(page)
@@ -75,7 +75,7 @@ class Built:
         self.put(b, 8 * k, struct.pack("<Q", number))
 
     def put_entry(self, map_, entry, number):
-        """An entry of a map, or, as entry 511, its link. Maps count from 1."""
+        """Sets an entry of a map; entry 511 is its link. Maps count from 1."""
         self.put_word(self.maps[map_ - 1], entry, number)
 
     def write(self, path):
@@ -87,7 +87,7 @@ class Built:
 
 
 def ran_over(built, command="check", *options):
-    """What a command says of an image, and whether it left the file as it was."""
+    """Returns what a command says of an image, and the file's bytes before and after it."""
     with tempfile.TemporaryDirectory() as room:
         path = pathlib.Path(room) / "area"
         built.write(path)
@@ -97,7 +97,7 @@ def ran_over(built, command="check", *options):
 
 
 def check_findings(built, *lines, options=()):
-    """The check prints just these lines and their number, and writes nothing."""
+    """Checks that `check` prints exactly these lines and their number, and writes nothing."""
     ran, before, after = ran_over(built, "check", *options)
     end = f"{len(lines)} findings" if lines else "whole"
     check(ran, 1 if lines else 0, "".join(f"{line}\n" for line in [*lines, end]).encode())
@@ -127,7 +127,7 @@ def test_a_file_with_the_header_at_an_offset():
 
 
 def compared(first, second, *options):
-    """What `differ` says of two images, neither of which it changes."""
+    """Returns what `differ` says of two images, and checks that it changes neither."""
     with tempfile.TemporaryDirectory() as room:
         paths = [pathlib.Path(room) / name for name in ["first", "second"]]
         for path, built in zip(paths, [first, second]):
@@ -139,14 +139,14 @@ def compared(first, second, *options):
 
 
 def changed(change, saved=600):
-    """An image with a change."""
+    """Returns an image with a change."""
     built = Built(saved)
     change(built)
     return built
 
 
 def test_images_that_are_the_same():
-    """Which blocks an image lies in, and what belongs to the area, isn't compared."""
+    """The blocks that an image lies in, and what belongs to the area, aren't compared."""
     check(compared(Built(600), Built(600)), 0, b"same\n")
     check(compared(Built(600), Built(600, bad=(1, 2, 3, 700), first=4, last=1500)), 0, b"same\n")
     check(compared(Built(20, header=77, first=3), Built(20, header=77, first=9), "--offset", "77"), 0, b"same\n")
@@ -154,8 +154,9 @@ def test_images_that_are_the_same():
     check(compared(Built(600), unsigned), 0, b"same\n")
 
 
-# What is changed of the second image of 600 page frames, and the lines that tell it. Block 1 is its first map, block 2 its info page, 3 and 4
-# have the numbers 0 to 511 and 512 to 599, block 5 + P has page frame P's page up to 507, and from 508 on, after the second map, block 6 + P.
+# Changes to the second image of 600 page frames, and the lines that report them. Block 1 is its first map, block 2 its info page, and blocks 3
+# and 4 have the numbers 0 to 511 and 512 to 599. Up to page frame 507, page frame P's page is in block 5 + P; from 508 on, after the second map,
+# in block 6 + P.
 DIFFERENCES = [
     (lambda built: built.put(0, 4072, struct.pack("<I", 3)), ["header flags 2 3"]),
     (lambda built: (built.put(0, 4072, struct.pack("<I", 10)), built.put(0, 4056, struct.pack("<I", 7))), ["header flags 2 10", "header hardware signature 0 7"]),
@@ -193,7 +194,7 @@ def test_images_that_cant_be_compared():
     none = changed(lambda built: built.put(0, 4086, b"SWAPSPACE2"))
     for name, images in [("first", (none, Built(600))), ("second", (Built(600), none))]:
         check(compared(*images), 1, note=f"{name}: no image\n")
-    # The entry of page frame 300, and page frame 0 changed in the other.
+    # The entry of page frame 300 is 0, and page frame 0 differs in the other image.
     torn = changed(lambda built: built.put_entry(1, 303, 0))
     other = changed(lambda built: built.put(5, 0, b"\0"))
     found = "map 1 block 1 entry 303: block 0\n"
@@ -354,13 +355,13 @@ def test_an_image_without_pages_of_zeros():
     built.put(built.places[0], 424, struct.pack("<QQ", 9, 9 * PAGE))
     built.put_entry(1, 9, 0)
     check_findings(built)
-    # Without its mark the number has a data page that isn't there, and with a mark one is there that isn't named.
+    # A number without its mark asks for a data page that the image doesn't have; a number with a mark leaves one that no number names.
     built.put_word(built.places[1], 3, 3)
     check_findings(built, "number pages: data pages 8, but pages 9")
     built = Built(600, flags=258)
     built.put_word(built.places[2], 20, built.numbers[532] + 2**63)
     check_findings(built, "number pages: data pages 599, but pages 603")
-    # What isn't read isn't counted.
+    # Pages that aren't read aren't counted.
     built.put_entry(1, 1, 0)
     check_findings(built, f"map 1 block {built.maps[0]} entry 1: block 0")
     built = Built(8)
@@ -369,7 +370,7 @@ def test_an_image_without_pages_of_zeros():
 
 
 def test_what_a_resume_refuses_is_found():
-    # Page frame 3 of this machine is zero and has no data page; the image is then told to have one page more, which is named.
+    # Page frame 3 of this machine is zero and has no data page. Then the info page counts one page more, and the map names it.
     machine = Machine()
     with fresh_area() as area:
         check_same("the status", run("swsusp", "hibernate", "--skip-zeros", area.path, stdin=machine.saved())[0], 0)
@@ -406,7 +407,7 @@ GENERIC = [
 
 
 def check_shown(built, *lines, options=(), status=0):
-    """`show` prints just these lines, and writes nothing."""
+    """Checks that `show` prints exactly these lines, and writes nothing."""
     ran, before, after = ran_over(built, "show", *options)
     check(ran, status, "".join(f"{line}\n" for line in lines).encode())
     check_same("the area after a show", after, before)
@@ -421,7 +422,7 @@ def test_show_of_an_image():
 
 
 def test_show_of_two_maps_a_gap_and_a_bad_page():
-    # 1018 pages of the frames 0 to 999 and 1001 to 1018, 2 number pages and the info page: 511 in the first map, 510 in the second.
+    # 1018 pages of the page frames 0 to 999 and 1001 to 1018, 2 number pages and the info page: 511 in the first map, 510 in the second.
     check_shown(
         Built(1018, bad=(3,)),
         "blocks 1026", *AREA, "last_page 1025", "bad_pages 1", "bad_page 3", FRESH_UUID, *MARK, *GENERIC,
@@ -500,7 +501,7 @@ def test_show_goes_as_far_as_the_bytes_allow():
 
 
 def units_of(image):
-    """What is told of the units of a real kernel's image: of 32 pages each, in all pages of its chain but the info page."""
+    """Returns what is printed of the units of a real kernel's image: 32 pages each, in all pages of its chain but the info page."""
     pages = image.pages - 1
     return [str(n) for n in [-(-pages // 32), 4096 * (len(image.chain) - 1), 4096 * pages]]
 
@@ -526,7 +527,7 @@ def test_show_of_real_kernels_images():
 
 
 def streamed(built):
-    """The pages of an image in the order of its chain, one after another."""
+    """Returns the pages of an image in the order of its chain, one after another."""
     return b"".join(built.blocks[b] for b in built.places)
 
 
@@ -569,7 +570,7 @@ def test_stream_of_a_damaged_image_stops_before_the_damage():
 
 
 def paged(built, frame):
-    """What `page` answers for a page frame, and the area before and after."""
+    """Returns what `page` prints for a page frame, and the area before and after."""
     with tempfile.TemporaryDirectory() as room:
         path = pathlib.Path(room) / "area"
         built.write(path)
@@ -603,7 +604,7 @@ def test_page_is_read_although_damage_follows_it():
 
 
 def check_discarded(built):
-    """The mark is taken back, and all other bytes stay."""
+    """The mark is cleared, and all other bytes stay."""
     ran, before, after = ran_over(built, "discard")
     check(ran, 0, b"discarded\n")
     check_same("the area", after, before[:4086] + before[4076:4086] + before[4096:])
@@ -623,7 +624,7 @@ def test_discard():
 
 
 def probed(path):
-    """The type, the UUID and the label that blkid finds."""
+    """Returns the type, the UUID and the label that blkid finds."""
     told = subprocess.run(["blkid", "-p", "-o", "export", path], capture_output=True, text=True).stdout
     facts = dict(line.split("=", 1) for line in told.splitlines())
     return [facts.get(key) for key in ["TYPE", "UUID", "LABEL"]]
@@ -710,7 +711,7 @@ def test_quiet_changes_no_answer():
 
 
 def test_closed_streams_leave_the_area():
-    """With each set of closed standard streams nothing but a discard writes the area, and a stream that is used and closed fails."""
+    """With each set of closed standard streams only a discard writes to the area, and a command fails if it uses a closed stream."""
     built = Built(8)
     for command in ["check", "show", "stream", "page", "differ", "discard"]:
         for closed in itertools.product([False, True], repeat=3):

@@ -1,7 +1,7 @@
-"""What the check before a resume (packaging/initramfs/check.sh) tells the kernel's log, of images that real kernels wrote and of damaged ones.
+"""What the check before a resume (packaging/initramfs/check.sh) writes to the kernel's log, for images of real kernels and damaged ones.
 
-The script runs as it is, but for the two files of the kernel's that it names: /proc/cmdline, and /dev/kmsg, which takes a message a write.
-tools/linux_test.sh boots with it.
+The script runs as it is, except for two of the kernel's files that it names: /proc/cmdline, and /dev/kmsg, where each write is a message.
+tools/linux_test.sh boots with the script.
 """
 import pathlib
 import shlex
@@ -16,7 +16,7 @@ ERROR, REMARK = "<3>", "<6>"
 
 
 def ran_script(device, *words, offset=(), program=None):
-    """Its status, what it prints, and the messages, where the kernel's command line has these words beside others."""
+    """Returns the script's result and its messages, if the kernel's command line has these words among others."""
     with tempfile.TemporaryDirectory() as room:
         room = pathlib.Path(room)
         line, log, script = room / "cmdline", room / "log", room / "check.sh"
@@ -55,7 +55,7 @@ def test_nothing_is_said_of_no_image():
 
 
 def test_damaged_images_are_told_with_their_place():
-    """The setting decides the status alone."""
+    """The setting decides the status only."""
     for name in reader.damages():
         with area("plain") as (file, _):
             _, _, found = getattr(reader.Damage(file.path), name)()
@@ -101,7 +101,7 @@ def test_many_findings_are_counted():
 def test_an_area_in_a_device():
     with area("plain") as (file, _):
         file.path.write_bytes(bytes(409600) + file.bytes())
-        # The image names blocks of the area still, so the header is found and its map is not.
+        # The image still names blocks of the area, not of the device, so at the offset the header is found, but the map isn't.
         check_told(file.path)
         ran, log = ran_script(file.path, "dirukofe.check=stop", offset=[100])
         check(ran, 1)

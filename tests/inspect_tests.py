@@ -10,7 +10,7 @@ def with_number(block, at, number):
 
 
 def marked(block, flags, hw_sig=0):
-    """A header block with the mark of an image whose first map is in block 1 (struct swsusp_header, kernel/power/swap.c)."""
+    """Returns a header block with the mark of an image whose first map is in block 1 (struct swsusp_header, kernel/power/swap.c)."""
     return block[:4056] + struct.pack("<IIQI", hw_sig, 0, 1, flags) + block[4086:] + b"S1SUSPEND\0"
 
 
@@ -23,7 +23,7 @@ def inspected(block, *options, blocks=1):
 
 
 def test_areas_and_images():
-    """Without an image, with as many bad pages as there is room for, and with an image."""
+    """A header block without an image, one with as many bad pages as there is room for, and one with an image."""
     for block, line in [
         (EMPTY, "bad 0 image none"),
         (header(3000, range(1, 631)), "bad 630 image none"),
@@ -49,7 +49,7 @@ def test_blocks_that_are_refused():
 
 
 def test_blocks_that_are_not_there():
-    """An empty file, and an offset past the end. Block 0 can be given by its number too."""
+    """An empty file, and an offset past the end. Block 0 can be named by its number too."""
     zeros = "no swap: signature 00000000000000000000"
     with disk(0, b"") as swap:
         check_refused(run("swsusp", "inspect", swap.path), zeros)
@@ -59,8 +59,8 @@ def test_blocks_that_are_not_there():
 
 
 def test_drills():
-    """The sums of three, ten and two thousand words are worked out from the values 1000003 c + 7919 i, of which the first eight are shown
-    again after one more was stored over them."""
+    """The sums of three, ten and two thousand words are worked out from the values 1000003 c + 7919 i. The first eight of them are shown
+    again after another one was stored over them."""
     for number, line in [
         (1, "drill 1 events 79 hibernated 1 resumed 1 words 2 sum 2000007"),
         (10, "drill 10 events 166 hibernated 1 resumed 1 words 18 sum 180578635"),

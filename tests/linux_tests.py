@@ -1,8 +1,8 @@
-"""Images that real kernels wrote, without the pages of their memory. tests/linux/README.md tells where each comes from.
+"""Images that real kernels wrote, without the pages of their memory. tests/linux/README.md says where each comes from.
 
-Of each image tests/linux has what the kernel's hibernation code wrote itself (NAME.xz), and what it logged (NAME.log). Here they are put
-together with made-up pages, and handed to every command that reads an area. What is expected comes from the log, from the bytes, by
-tools/linux_lab/image.py, and from docs/FORMATS.md.
+For each image tests/linux has what the kernel's hibernation code wrote itself (NAME.xz), and what it logged (NAME.log). Here the images are
+put together with made-up pages, and handed to every command that reads an area. What is expected comes from the log, from the bytes as
+tools/linux_lab/image.py reads them, and from docs/FORMATS.md.
 """
 import contextlib
 import functools
@@ -24,10 +24,10 @@ HERE = pathlib.Path(__file__).resolve().parent
 sys.path.insert(0, str(HERE.parent / "tools" / "linux_lab"))
 import image as reader  # noqa: E402
 
-# The images without compression by the flags, first map, bad slots and identity that the kernel gave them.
+# The images without compression.
 PLAIN = ["plain", "used_bad", "x86_64"]
 
-# Those that Linux compressed, as it does by default.
+# The images that Linux compressed, as it does by default.
 COMPRESSED = ["compressed", "x86_64_compressed"]
 
 
@@ -36,7 +36,7 @@ def log_of(name):
 
 
 def logged(name, pattern):
-    """The numbers that the kernel's log has in the place of each group."""
+    """Returns the numbers that the kernel's log has in the place of each group of the pattern."""
     found = re.search(pattern, log_of(name))
     if not found:
         raise Mismatch(f"the log of {name} has no {pattern!r}")
@@ -44,12 +44,12 @@ def logged(name, pattern):
 
 
 def made_up(p):
-    """The page that stands for the one of a page frame: no two are alike, and none is all zero."""
+    """Returns the page that stands for a page frame's own: no two are alike, and none is all zero."""
     return struct.pack("<Q", (p + 1) * 0x9E3779B97F4A7C15 % 2**64) * 512
 
 
 def records_of(name):
-    """The blocks of a packed image by their numbers, and the number pages that lie in no block."""
+    """Returns the blocks of a packed image by their numbers, and the number pages that are in no block."""
     content = lzma.decompress((HERE / "linux" / f"{name}.xz").read_bytes())
     found = [(reader.number(content, at), content[at + 8 : at + 8 + PAGE]) for at in range(0, len(content), 8 + PAGE)]
     return {b: page for b, page in found if b != reader.END}, [page for b, page in found if b == reader.END]
@@ -57,8 +57,9 @@ def records_of(name):
 
 @functools.cache
 def with_made_up_pages(name):
-    """The blocks of a compressed image with made-up pages, and what stands after its info page: of a unit that the kernel's own bytes are packed of,
-    what these expand to; of each other the number pages and made-up ones, in a stream as long as the kernel's, of which the checksum is."""
+    """Returns the blocks of a compressed image with made-up pages, and the bytes that come after its info page. A unit whose bytes of the kernel's
+    are packed is what these expand to. Any other unit has the number pages and made-up pages, in a stream as long as the kernel's. The header's
+    checksum is that of these bytes."""
     blocks, number_pages = records_of(name)
     with tempfile.NamedTemporaryFile() as file:
         for b, page in blocks.items():
@@ -85,7 +86,7 @@ def with_made_up_pages(name):
 
 @contextlib.contextmanager
 def area(name):
-    """The image of this name in a file, with made-up pages."""
+    """Yields the image of this name in a file, with made-up pages."""
     blocks, content = with_made_up_pages(name) if name in COMPRESSED else (records_of(name)[0], b"")
     with tempfile.TemporaryDirectory() as room:
         file = SwapFile(pathlib.Path(room) / "area")
@@ -107,7 +108,7 @@ def area(name):
 
 
 def loader_of(image, hw_sig=0, ident=None):
-    """The dump of a loader of the same hardware, of the image's identity or another."""
+    """Returns the dump of a loader of the same hardware, with the image's identity or another one."""
     if ident:
         image.info = ident + image.info[len(ident) :]
     out = io.BytesIO()
@@ -132,17 +133,17 @@ def resume(file, dump, *options):
 
 
 def looked(file, command, *more, offset=None):
-    """What a command of swsusp_image says of an area."""
+    """Returns what a command of swsusp_image says of an area."""
     return run("swsusp_image", command, *([] if offset is None else ["--offset", offset]), file.path, *more)
 
 
 def stream_of(image):
-    """What stands after the marks of an image, page by page."""
+    """Returns the stream of an image: the info page and the pages after it."""
     return b"".join([image.info, *image.pages_behind_info()])
 
 
 def check_pages(ran, image, contents=None):
-    """A resume ended well, and its dump has each page of the image in its page frame: these, or made-up ones."""
+    """Checks that a resume ended well, and that its dump has each page of the image in its page frame: `contents`, or the made-up pages."""
     check_same("a resume's status and note", (ran[0], ran[2]), (0, ""))
     with tempfile.NamedTemporaryFile() as dump:
         pathlib.Path(dump.name).write_bytes(ran[1])
@@ -151,7 +152,7 @@ def check_pages(ran, image, contents=None):
 
 
 def test_sizes_of_the_kernels_log():
-    """The kernel copied so many pages, and saved these and those of their numbers."""
+    """The kernel's log says how many pages it copied; it saved these and their number pages."""
     for name in PLAIN:
         with area(name) as (_, image):
             copied, = logged(name, r"Need to copy (\d+) pages")
@@ -169,7 +170,7 @@ def test_headers_that_are_inspected():
 
 
 def test_bad_and_used_slots_that_are_left_alone():
-    """No block of the image lies in a bad slot or in one that a task had, and the map lies after them."""
+    """No block of the image lies in a bad slot or in a slot that a task had, and the map comes after them."""
     with area("used_bad") as (_, image):
         bad = reader.bad_pages(image.header)
         check_same("the bad slots", len(bad), 7)
@@ -189,7 +190,7 @@ def test_images_that_are_whole():
 
 
 def test_images_that_are_resumed():
-    """The old signature stands in the header afterwards, and all else is as it was."""
+    """Afterwards the old signature stands in the header, and all else is as it was."""
     for name in PLAIN:
         with area(name) as (file, image):
             before, dump = file.bytes(), loader_of(image)
@@ -209,7 +210,7 @@ def test_areas_that_are_not_written_over():
 
 
 def test_streams_of_real_images():
-    """What stands after an image's marks is a stream, as /dev/snapshot hands it out. Another area takes it, and it is resumed there."""
+    """The pages of an image in the order of its maps are a stream, as /dev/snapshot hands it out. Another area takes it, and it is resumed there."""
     for name in PLAIN:
         with area(name) as (file, image):
             stream, dump = stream_of(image), loader_of(image)
@@ -219,13 +220,13 @@ def test_streams_of_real_images():
 
 
 def listing(frames):
-    """The pages of these page frame numbers, with the end value after the last one unless its page is full."""
+    """Returns the number pages of these page frames, with the end value after the last number unless its page is full."""
     words = frames + [reader.END] * (len(frames) % 512 > 0)
     return struct.pack(f"<{len(words)}Q", *words).ljust(-(-len(words) // 512) * PAGE, b"\0")
 
 
 def test_machines_of_real_images():
-    """The machine that was saved is exported and hibernates, with the page frames of its tables beside those of the image."""
+    """The machine that was saved is exported and hibernates. Besides the image's page frames, those of its tables are saved."""
     for name in PLAIN:
         with area(name) as (file, image):
             out = io.BytesIO()
@@ -246,7 +247,7 @@ def test_machines_of_real_images():
 
 
 def test_pages_and_streams_of_real_images():
-    """swsusp_image gives each block that the kernel wrote, in the order of its maps, and writes nothing."""
+    """swsusp_image prints each block that the kernel wrote, in the order of its maps, and writes nothing to the area."""
     for name in PLAIN:
         with area(name) as (file, image):
             before = file.bytes()
@@ -260,7 +261,7 @@ def test_pages_and_streams_of_real_images():
 
 
 def facts_of(image):
-    """What `show` says of an area and its mark, a list of values for each key, by the tables of docs/FORMATS.md."""
+    """Returns what `show` says of an area and its mark, a list of values for each key, by the tables of docs/FORMATS.md."""
     header = image.header
     uuid = header[1036:1052].hex()
     bad = reader.bad_pages(header)
@@ -275,7 +276,7 @@ def facts_of(image):
 
 
 def kernel_facts(name, image):
-    """What it says of the kernel that wrote the image."""
+    """Returns what `show` says of the kernel that wrote the image."""
     if name.startswith("x86_64"):
         words = reader.numbers(image.info)
         keys = ["jump_address", "jump_address_physical", "cr3", "memory_map_checksum"]
@@ -287,7 +288,7 @@ def kernel_facts(name, image):
 
 
 def image_facts(name, image):
-    """What it says of the image, in the kernel's numbers and in the order of a resume's reads."""
+    """Returns what `show` says of the image, in the kernel's numbers and in the order of a resume's reads."""
     copied, = logged(name, r"Need to copy (\d+) pages")
     saving, = logged(name, r"[Ss]aving image data (?:pages )?\((\d+) pages\)")
     parts = [[b, *image.chain[k * 511 : (k + 1) * 511]] for k, b in enumerate(image.maps)]
@@ -317,7 +318,7 @@ def test_what_show_prints():
 
 
 def test_real_images_are_given_up():
-    """The old signature stands in the header then, also of a compressed image, and no command finds an image any more."""
+    """Afterwards the old signature stands in the header, of a compressed image too, and no command finds an image any more."""
     for name in [*PLAIN, "compressed"]:
         with area(name) as (file, image):
             before, dump = file.bytes(), loader_of(image)
@@ -330,7 +331,7 @@ def test_real_images_are_given_up():
 
 
 def test_an_area_in_a_device():
-    """As a swap file it begins at another block than the first."""
+    """Like a swap file, the area begins at another block than the first."""
     for name in ["plain", "x86_64"]:
         with area(name) as (file, image):
             p, out = image.listed[600], io.BytesIO()
@@ -350,7 +351,7 @@ def test_an_area_in_a_device():
 
 
 def test_an_architectures_header():
-    """Its record stands in the place of the names."""
+    """The architecture's record stands in the place of the names."""
     with area("x86_64") as (file, image):
         dump = loader_of(image, ident=GENERIC)
         check_refused(check_image(file, dump), "mismatch version code")
@@ -361,7 +362,7 @@ def test_an_architectures_header():
 
 
 def test_compressed_images_are_read():
-    """Each page is the one that the tests' own reader finds, and the checksum is that of the header."""
+    """Each page is the one that the tests' own reader finds, and the checksum is the header's."""
     for name in COMPRESSED:
         with area(name) as (file, image):
             before, contents = file.bytes(), image.contents()
@@ -378,7 +379,7 @@ def test_compressed_images_are_read():
 
 
 def test_a_compressed_image_is_still_refused_by_a_resume():
-    """It is refused by its name, and left as it is."""
+    """A compressed image is refused as compressed, and left as it is."""
     with area("compressed") as (file, image):
         before, dump = file.bytes(), loader_of(image)
         for ran in [resume(file, dump), resume(file, dump, "--any-kernel"), check_image(file, dump)]:
@@ -387,7 +388,7 @@ def test_a_compressed_image_is_still_refused_by_a_resume():
 
 
 def test_a_compressed_image_is_carried_over():
-    """As README says: stream, compare, discard the old one, resume the new one, by the loader of either."""
+    """As README says: stream, compare, discard the old image, resume the new one, by the loader of either."""
     with area("compressed") as (file, image), fresh_area(image.last) as new:
         stream = looked(file, "stream")[1]
         check_line(ran_over(new, stream, "swsusp", "import"), f"imported {image.image_pages}")
@@ -402,7 +403,7 @@ def test_a_compressed_image_is_carried_over():
 
 
 def test_a_compressed_image_is_hibernated_again():
-    """Its machine goes through the engine, which writes a plain image of the same page frames and of new tables."""
+    """The image's machine goes through the engine, which writes a plain image of the same page frames and of new tables."""
     with area("compressed") as (file, image), fresh_area(image.last) as new:
         before, dump = file.bytes(), looked(file, "machine")
         check_same("the status and the note of a machine", (dump[0], dump[2]), (0, ""))
@@ -420,7 +421,7 @@ def test_a_compressed_image_is_hibernated_again():
 
 
 def test_a_carried_image_is_the_same():
-    """What another image differs in from it, it differs in from its copy too."""
+    """Another image differs from the copy in the same ways as from the image that was copied."""
     with area("x86_64_compressed") as (file, image), fresh_area(image.last) as new:
         check_line(ran_over(new, image.stream, "swsusp", "import"), f"imported {image.image_pages}")
         for first, second in [(file, new), (new, file), (file, file)]:
@@ -432,7 +433,7 @@ def test_a_carried_image_is_the_same():
 
 
 def test_a_damaged_byte_of_a_compressed_image():
-    """In the middle of each twentieth unit, of which the length is one that the kernel wrote."""
+    """A byte in the middle of every twentieth unit is changed; the unit's length stays as the kernel wrote it."""
     with area("compressed") as (file, image):
         whole = file.bytes()
         for at, length, _ in list(image.units())[::20]:
@@ -445,7 +446,7 @@ def test_a_damaged_byte_of_a_compressed_image():
 
 
 def test_a_loader_of_other_hardware():
-    """The signature is one that the kernel's firmware has none of: an image without flag 8 asks for none."""
+    """The loader has a hardware signature, which the kernel's firmware has none of: an image without flag 8 asks for none."""
     with area("plain") as (file, image):
         check_line(check_image(file, loader_of(image, hw_sig=7)), f"resumed {image.image_pages}")
         image.physpages -= 1
@@ -453,12 +454,12 @@ def test_a_loader_of_other_hardware():
         check_refused(check_image(file, loader_of(image)), f"memory size {image.physpages + 1} own {image.physpages}")
 
 
-# What `swsusp_machine check` warns of before it says what a resume would answer.
+# What `swsusp_machine check` warns of before it says what a resume would report.
 BEYOND = "warning: the first map is block {}, beyond the file: of a swap file in a file system give the device"
 
 
 def test_damage_is_named():
-    """Each damage of tools/linux_lab/image.py by the finding that its kind has."""
+    """For each damage of tools/linux_lab/image.py, its kind's finding is reported."""
     for name in reader.damages():
         with area("plain") as (file, image):
             dump = loader_of(image)

@@ -1,6 +1,6 @@
 """The codec of the tests and `swsusp_image` beside liblzo2: streams of the library are read, and those of lzo1x.py are read by the library.
 
-Where liblzo2 isn't there (Debian's package liblzo2-2), it says so, and nothing is compared.
+Without liblzo2 (Debian's package liblzo2-2) the tests say so, and compare nothing.
 """
 import ctypes
 import ctypes.util
@@ -14,13 +14,13 @@ from harness import check_same
 from image_tests import Built, streamed
 from inputs import PAGE
 
-# What each compressor of the library calls for as working memory (lzo1x.h).
+# The size of the working memory that each compressor of the library wants (lzo1x.h).
 COMPRESSORS = {"lzo1x_1_compress": 16384 * 8, "lzo1x_1_11_compress": 2048 * 8, "lzo1x_1_12_compress": 4096 * 8, "lzo1x_1_15_compress": 32768 * 8,
                "lzo1x_999_compress": 14 * 16384 * 2}
 
 
 def library():
-    """liblzo2, or None."""
+    """Returns liblzo2, or None."""
     name = ctypes.util.find_library("lzo2")
     if not name:
         print("lzo_library_tests: nothing is compared: no liblzo2", file=sys.stderr)
@@ -36,14 +36,14 @@ def compressed_by(lzo, name, content):
 
 
 def expanded_by(lzo, stream, room):
-    """The library's status, and the bytes."""
+    """Returns the library's status, and the bytes."""
     out, size = ctypes.create_string_buffer(max(room, 1)), ctypes.c_size_t(room)
     status = lzo.lzo1x_decompress_safe(stream, ctypes.c_size_t(len(stream)), out, ctypes.byref(size), None)
     return status, out.raw[: size.value]
 
 
 def texts():
-    """Bytes of several kinds: none, few, runs, words of a small alphabet, pages of a plain image, and noise."""
+    """Returns bytes of several kinds: none, few, runs, words of a small alphabet, pages of a plain image, and noise."""
     mixed = random.Random(49)
     spoken = b"".join(mixed.choice([b"page ", b"frame ", b"of ", b"the ", b"kernel "]) for _ in range(20000))[:UNIT]
     noise = mixed.randbytes(UNIT)
@@ -71,7 +71,7 @@ def test_the_library_reads_our_streams():
 
 
 def test_the_library_finds_the_same_faults():
-    """Of every prefix, and of streams with a byte flipped: where one reader expands it, so does the other, to the same bytes."""
+    """Every prefix of a stream, and streams with a flipped byte: if one reader expands them, so does the other, to the same bytes."""
     lzo = library()
     if not lzo:
         return

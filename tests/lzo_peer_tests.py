@@ -1,5 +1,5 @@
-"""Compressed images whose units another compressor wrote: those of liblzo2, which the kernel's own comes from. What they expand to must be the same, byte for
-byte. Where that library isn't there nothing is compared.
+"""Compressed images whose units another compressor wrote: liblzo2, from which the kernel's own comes. What the units expand to must be the same,
+byte for byte. Without that library nothing is compared.
 """
 import ctypes
 import ctypes.util
@@ -12,7 +12,7 @@ from harness import check_same, programs
 from image_tests import Built, streamed
 from inputs import PAGE
 
-# How much memory each compressor works in (lzo1x.h), in bytes.
+# The size of each compressor's working memory (lzo1x.h), in bytes.
 COMPRESSORS = {"lzo1x_1_compress": 131072, "lzo1x_1_15_compress": 262144, "lzo1x_999_compress": 458752}
 
 
@@ -22,7 +22,7 @@ def peer():
 
 
 def packed_by(library, name):
-    """How a compressor of the library packs unit k."""
+    """Returns a function that packs unit k by a compressor of the library."""
     def packed(_, unit):
         made = ctypes.create_string_buffer(len(unit) + len(unit) // 16 + 67)
         size = ctypes.c_size_t()
@@ -34,7 +34,7 @@ def packed_by(library, name):
 
 
 def contents():
-    """Pages of bytes without order, of few bytes, of a program's code, of text, and of runs of many lengths."""
+    """Returns pages of random bytes, of few bytes, of a program's code, of text, and of runs of many lengths."""
     rng = random.Random(20)
     program = pathlib.Path(programs["swsusp_image"]).read_bytes()
     text = pathlib.Path(__file__).read_bytes() * 40

@@ -1,4 +1,4 @@
-"""What `swsusp_image machine` makes of images: dumps that are read here by hand, by the tables of docs/FORMATS.md, and hibernated again."""
+"""What `swsusp_image machine` makes of images: dumps that are read here by the tables of docs/FORMATS.md, and hibernated again."""
 import pathlib
 import subprocess
 import tempfile
@@ -29,7 +29,7 @@ def hibernate(file, dump):
 
 
 def check_machine(dump, saved, bad=(0,)):
-    """The saved page frames, which have their pages, and the tables alone are in use, with no flag and no owner."""
+    """Checks that only the saved page frames, which have their pages, and the tables are in use, with no flag and no owner."""
     valid = {p for first, count in dump.zones for p in range(first, first + count)}
     frames = dump.frames()
     in_use = {*saved, *dump.tables()}
@@ -41,7 +41,7 @@ def check_machine(dump, saved, bad=(0,)):
 
 
 def test_the_machine_with_new_tables():
-    """Page frames 0 to 3 and 10 are saved: the tables lie after the first ones, and a hibernation saves them beside."""
+    """Page frames 0 to 3 and 10 are saved. The tables come after the first of them, and a hibernation saves the tables too."""
     saved = {p: EXAMPLE.saved_pages().get(p, bytes(PAGE)) for p in [0, 1, 2, 3, 10]}
     with area() as file, area() as other:
         hibernate(file, EXAMPLE.saved())
@@ -61,7 +61,7 @@ def test_the_machine_with_new_tables():
 
 
 def test_the_machine_with_its_tables():
-    """It is the machine that was hibernated, byte by byte, with what its tasks have; hibernated again it gives the same image."""
+    """The dump is the machine that hibernated, byte for byte, with its tasks' page frames and slots. Hibernated again, it gives the same image."""
     slots = page({0: BAD, 4 * 5: 3, 4 * 9: 64})
     for hw_sig in [0, 0xFFFFFFFF]:
         with area() as file, area() as other:
@@ -85,7 +85,7 @@ def test_extents_and_an_offset():
 
 
 def test_tables_at_fault():
-    """What is no table, or says other page frames than the image."""
+    """Page frames that have no table, or a table that disagrees with the image about page frames."""
     with area() as file:
         hibernate(file, EXAMPLE.saved())
         for tables, note in [
@@ -93,7 +93,7 @@ def test_tables_at_fault():
             ((1, 2), "tables refused"),
             ((0, 2048), "tables refused"),
             ((4294967295, 4294967295), "tables refused"),
-            # Slot 0 is free there.
+            # There slot 0 is free.
             ((0, 3), "tables: page frame 3"),
             # Page frame 10 is a task's.
             ((0, 10), "tables: page frame 10"),
@@ -121,7 +121,7 @@ def test_limits():
 
 
 def test_the_least_machine():
-    """Page frames 0 to 7 are saved. The tables are all that it has beside them, so that a hibernation finds no free page frame for a copy."""
+    """Page frames 0 to 7 are saved. The machine has only the tables beside them, so a hibernation finds no free page frame for a copy."""
     ran = ran_over(Sized(10))
     dump = made(ran)
     check_same("the tables", (dump.frame_table, dump.slot_table), (8, 9))
@@ -140,7 +140,7 @@ def test_what_is_no_image():
 
 
 def test_a_damaged_image():
-    """Nothing is written of an image with findings: an unordered number, and the block of page frame 300."""
+    """Nothing is written for an image with findings: a number out of order, and a wrong block for page frame 300."""
     built = Sized(2048)
     built.put_word(built.places[1], 3, 1)
     check(ran_over(built), 1, note="numbers page 1 word 3: 1 after 2\n")
@@ -185,7 +185,7 @@ def test_words():
 
 
 def test_images_of_real_kernels():
-    """The machine that each kernel's image saved hibernates again: the images differ in the new tables alone, and the second is resumed."""
+    """The machine of each kernel's image hibernates again. The images differ only in the new tables, and the second one is resumed."""
     for name in PLAIN:
         with kernels_area(name) as (file, image), disk(image.last + 1, image.header[:4086] + b"SWAPSPACE2") as other:
             words = [word for zone in gapless(image) for word in ["--zone", *zone]]

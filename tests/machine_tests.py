@@ -22,7 +22,7 @@ def check_image(swap, dump=EXAMPLE.loader_with_nines()):
 
 
 def test_dumps_that_are_made():
-    """A region's page frames are in use, and no dump has a place for it."""
+    """A region's page frames are in use, and a dump has no place for the region itself."""
     check(machine("make", stdin=SCRIPT), 0, EXAMPLE.saved())
     script = b"zone 0 2048\narea 1599\nregion 4 6 0\nboot\nsteps core 2\n"
     check(machine("make", stdin=script), 0, EXAMPLE.loader(10))
@@ -37,7 +37,7 @@ def test_scripts_without_a_machine():
 
 
 def test_loaders_that_are_made():
-    """Page frame 10 isn't a task's any more, nor slot 1600 bad, which isn't there. Bad slots stay bad."""
+    """Page frame 10 isn't a task's any more, and slot 1600, which doesn't exist, isn't bad. Bad slots stay bad."""
     check(machine("loader", stdin=EXAMPLE.saved()), 0, EXAMPLE.loader(4))
     entries = {0: BAD, 4: BAD, 4092: BAD}
     bad = {2: page(entries), 3: page({0: BAD, 4 * 575: BAD})}
@@ -63,7 +63,7 @@ def test_dumps_that_differ():
 
 
 def changed(table, i, entry):
-    """The worked example's dump with this entry of a table, or number of a page frame."""
+    """Returns the worked example's dump with this entry of a table, or number of a page frame, changed."""
     pages = {**EXAMPLE.saved_pages()}
     p, at = table + i // 1024, 4 * (i % 1024)
     content = pages.get(p, ZERO_PAGE)
@@ -72,7 +72,7 @@ def changed(table, i, entry):
 
 
 def test_dumps_that_differ_in_a_word():
-    """The last word of page frame 10; owners, which stand in the frame table: that of page frame 10 in page frame 0, that of 1024 in 1; and
+    """The last word of page frame 10; owners, which stand in the frame table (page frame 10's in page frame 0, page frame 1024's in 1); and
     slots. What a free page frame holds is no difference."""
     saved = EXAMPLE.saved()
     for table, i, entry, line in [
@@ -141,7 +141,7 @@ def check_shown(dump, text):
 
 
 def with_names(dump, names):
-    """The dump with these six names: they lie after its mark and six numbers."""
+    """Returns the dump with these six names, which come after its mark and six numbers."""
     return dump[:32] + b"".join(name.ljust(65, b"\0") for name in names) + dump[422:]
 
 
@@ -149,7 +149,7 @@ KEYS = ["sysname", "nodename", "release", "version", "machine", "domainname"]
 
 
 def test_facts_that_are_shown():
-    """Page frames 0 to 3 and 10 are saveable, and page frame 3 is all zero. The names have no zero byte, and none that is visible."""
+    """Page frames 0 to 3 and 10 are saveable, and page frame 3 is all zero. The names have no zero byte and no printable one."""
     names = "".join(f"{key}_hex {'07' * 65}\n" for key in KEYS)
     check_shown(with_names(EXAMPLE.saved(), [b"\7" * 65] * 6), f"""slots 1600
 frame_table 0
@@ -172,7 +172,7 @@ slots_needed_zeros 1032
 
 
 def test_facts_of_tasks_and_extents():
-    """Task 3 has page frames 10, with a word, and 11, and slots 1 and 2; task 64 has page frame 12, with a last word, and slot 3. Slot 5 is
+    """Task 3 has page frame 10, with a word, page frame 11, and slots 1 and 2; task 64 has page frame 12, with a last word, and slot 3. Slot 5 is
     bad. Page frames 100 to 119 are cached, and 200 to 204 offline."""
     owned = {10: 3 << 16, 11: 3 << 16, 12: 64 << 16, **{p: 64 for p in range(100, 120)}, **{p: 4 for p in range(200, 205)}}
     small = Machine(frames=4096, slots=3001, hw_sig=7, extents=((0, 1, 50), (1, 3000, 100)))
@@ -209,19 +209,19 @@ slots_needed_zeros 1035
 
 
 def test_facts_of_names():
-    """An empty name, one of 65 bytes, one that ends at a zero byte before others, and three with a byte that isn't printed."""
+    """An empty name, one of 65 bytes, one that ends at a zero byte before other bytes, and three with a byte that isn't printed."""
     names = [b"", b"~" * 65, b"a b\0c", b"\n", b"a\x7f", b"\xc3\xa9"]
     status, out, note = machine("show", stdin=with_names(EXAMPLE.saved(), names))
     wanted = f"sysname \nnodename {'~' * 65}\nrelease a b\nversion_hex 0a\nmachine_hex 617f\ndomainname_hex c3a9\nframes_saveable"
     check_same("what was shown", (status, note, wanted.encode() in out), (0, "", True))
 
 
-# What stands in a column: for each of `title`, `use` and `text` a list.
+# The prefix of the picture's elements.
 SVG = "{http://www.w3.org/2000/svg}"
 
 
 def draw(script):
-    """The columns of a script's picture, each as the words and the reply that its title has, and the names of what it draws."""
+    """Returns the columns of a script's picture: the words and the reply in each title, the names of what each draws, and the columns themselves."""
     status, out, note = machine("draw", stdin=script.encode())
     check_same("how it ended", (status, note), (0, ""))
     picture = xml.etree.ElementTree.fromstring(out)
@@ -233,17 +233,17 @@ def draw(script):
 
 
 def drawn(power, memory, disk, *more):
-    """What a column draws: what each lane shows, and then a call, a cut or the line under an event's words."""
+    """Returns what a column draws: what each lane shows, and then a call, a cut or the line under an event's words."""
     return [f"power-{power}", f"memory-{memory}", f"disk-{disk}", *more]
 
 
 def boots(disk="none"):
-    """A boot's three columns over a disk that shows this, where no image is there."""
+    """Returns a boot's three columns over a disk that shows `disk` and has no image."""
     return [drawn("on", "boots", disk, "event"), drawn("on", "boots", disk, "sync"), drawn("on", "runs", "none", "header")]
 
 
 def saves(*pages):
-    """A hibernation of so many pages and maps, up to the step that writes the mark."""
+    """Returns the columns of a hibernation of the given numbers of pages and maps, up to the step that writes the mark."""
     steps = ["write"] * sum(pages) + ["sync", "header"]
     return [drawn("on", "saves", "none", "event"), *(drawn("on", "saves", "none", call) for call in steps), drawn("on", "saves", "perhaps", "mark")]
 
@@ -261,7 +261,7 @@ steps core {}
 
 
 def test_a_picture_of_a_cut_that_leaves_no_image():
-    """As examples/cut.txt has it: 15 steps of the hibernation are of 11 pages and maps, and 8 page frames are saved."""
+    """The script of examples/cut.txt: the hibernation's 15 steps write 11 pages and maps, and 8 page frames are saved."""
     titles, uses, _ = draw(CUT_SCRIPT.format(0, 2))
     script = ["boot", "step core", "step core", "claim 3 10", "store 3 10 0 77", "hibernate", *["step core"] * 14, "cut 0", "resume", *["step core"] * 2]
     replies = ["more 0 of 2", "more 1 of 2", "booted image no", "ok", "ok", *counts("more ", 0, 14, " of 15"), "cut", "loading 0", "loading 1", "no image"]
@@ -282,7 +282,7 @@ def test_a_picture_of_a_cut_that_leaves_the_image():
 
 
 def test_a_picture_of_calls_that_fail():
-    """The third call of a hibernation, the page of a task, and the sync after a mark, which is undone."""
+    """Failures of the third call of a hibernation, of the write of a task's page, and of the sync after a mark, which is undone."""
     _, uses, columns = draw("boot\nsteps core 2\nclaim 3 10\narm 3 1 0\nhibernate\nsteps core 3\nout 3 10\narm 1 1 0\nstep 3\n")
     check_same("a page", uses[-4:-2] + uses[-1:], [drawn("on", "runs", "none", "write", "fails"), drawn("on", "runs", "none", "event"),
                drawn("on", "runs", "none", "write", "fails", "event")])
@@ -302,7 +302,7 @@ def test_a_picture_of_a_machine_that_sleeps():
 
 
 def test_words_of_each_event():
-    """As they stand in a script, but for `steps`, and for numbers with leading zeros."""
+    """The words stand as in the script, except for `steps` and for numbers with leading zeros."""
     lines = ["boot", "step core", "step 7", "claim 1 2", "release 1 2", "store 1 2 3 18446744073709551615", "show 1 2 3", "cache 1 2", "out 1 2", "in 1 2 3",
              "hibernate", "hibernate zeros", "suspend", "suspend zeros", "wake", "settle", "shrink 5", "resume", "resume 0-1 7-9", "cut 128", "arm 2 3 4"]
     titles, _, columns = draw("\n".join(lines))

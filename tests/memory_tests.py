@@ -1,7 +1,7 @@
-"""How much memory a machine takes while its script is replayed or its dump is read, as the system tells of it: what nothing was
-written to costs nothing.
+"""How much memory a program takes while it replays a script or reads a dump, as the system reports it: memory that nothing was written
+to costs nothing.
 
-A program waits where nobody takes what it prints, and is looked at there.
+A program waits when nobody takes its output, and is looked at then.
 """
 import fcntl
 import re
@@ -12,22 +12,22 @@ import time
 
 from harness import Mismatch, programs, run
 
-# The replies to so many lines fill a pipe, which holds 64 KiB.
+# The replies to `LINES` lines fill a pipe, which holds 64 KiB.
 LINES = 20_000
 
-# A machine of the most page frames, with an area of the most slots that a script can have.
+# A machine of the most page frames, with an area of the most slots, that a script can have.
 LARGEST = "zone 0 65536\narea 16383\n"
 
 BOOT = "boot\nsteps core 2\n"
 
 
 def waiting(pipe):
-    """How many bytes wait to be read."""
+    """Returns how many bytes wait to be read."""
     return struct.unpack("i", fcntl.ioctl(pipe, termios.FIONREAD, b"\0" * 4))[0]
 
 
 def most_memory(given, name, *words):
-    """The most memory, in MiB, that a program has had when it waits for someone to take what it prints."""
+    """Returns the most memory, in MiB, that a program has had when it waits for someone to take its output."""
     with subprocess.Popen([programs[name], *words], stdin=subprocess.PIPE, stdout=subprocess.PIPE) as program:
         program.stdin.write(given)
         program.stdin.close()
@@ -44,14 +44,14 @@ def most_memory(given, name, *words):
 
 
 def check_memory(most, given, name, *words):
-    """A program that prints more than a pipe holds has at most so many MiB."""
+    """Checks that a program that prints more than a pipe holds has had at most `most` MiB."""
     had = most_memory(given, name, *words)
     if had > most:
         raise Mismatch(f"{name} {words[0]}: {had:.1f} MiB of memory for at most {most}")
 
 
 def check_replay(most, script):
-    """So of the replay of a script with lines after it whose replies fill a pipe."""
+    """Checks the same of the replay of a script, with lines after it whose replies fill a pipe."""
     check_memory(most, (script + "show 1 9 0\n" * LINES).encode(), "swsusp", "replay")
 
 

@@ -1,5 +1,5 @@
 """The programs beside a peer: tools/bench.c, a C program that hibernates, resumes, exports and imports by docs/FORMATS.md. What both
-leave of the same input must be the same, byte for byte. Where no cc is there nothing is compared.
+leave of the same input must be the same, byte for byte. Without a cc nothing is compared.
 """
 import pathlib
 import shutil
@@ -11,7 +11,7 @@ from inputs import EXAMPLE, SCRIPTED, Machine, area
 
 PEER = pathlib.Path(__file__).resolve().parent.parent / "tools" / "bench.c"
 
-# Machines with their last slot, and page frames that are in use too: of one map, of two, of one that is just full, of two number pages.
+# Machines with their last slot and further page frames in use: images of one map, of two, of one that is exactly full, of two number pages.
 CASES = [(EXAMPLE, 1599, ()), (EXAMPLE, 1599, range(100, 605)), (EXAMPLE, 1599, range(100, 604)), (SCRIPTED, 3000, range(500, 1010)),
          (SCRIPTED, 3000, range(7, 10)), (Machine(hw_sig=7), 1599, range(20, 700, 3))]
 

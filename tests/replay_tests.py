@@ -1,5 +1,5 @@
-"""What a replay says of any script, and of machines that settings describe: zones, regions, tables elsewhere, bad slots, extents, a
-signature, and what a loader may use."""
+"""What a replay prints for any script, and for machines that settings describe: zones, regions, tables elsewhere, bad slots, extents, a
+hardware signature, and the page frames that a loader may use."""
 from harness import check_replay, check_transcript
 
 # A machine with page frames 0 to 4095 and 3001 slots has booted, and its task 3 has stored 77 in page frame 10.
@@ -17,7 +17,7 @@ B = """
     ok
 """
 
-# Behind it a hibernation, and its image's resume.
+# After it a hibernation, and the resume of its image.
 HIBERNATES = """
     > hibernate
     more 0 of 15
@@ -48,7 +48,7 @@ UP = """
 """
 
 
-# What a replay says of any script.
+# What a replay prints for any script.
 
 
 def test_short_scripts():
@@ -78,7 +78,7 @@ def test_faulty_scripts():
 
 
 def test_a_thin_run():
-    """Meanwhile nothing is stored, and after the resume the word is there again."""
+    """During a hibernation nothing is stored, and after the resume the word is there again."""
     check_transcript(UP, """
         > claim 3 10
         ok
@@ -140,11 +140,11 @@ def test_what_a_cut_leaves():
     """)
 
 
-# What each state of a machine takes.
+# What a machine accepts in each state.
 
 
 def test_until_it_runs():
-    """A machine boots, and until it runs nothing else begins."""
+    """A machine boots, and nothing else begins until it runs."""
     check_transcript("""
         > claim 3 10
         not on
@@ -190,7 +190,7 @@ def test_what_tasks_ask():
 
 
 def test_while_it_hibernates():
-    """No page frame is claimed, and no hibernation begins. The power is cut after its first step."""
+    """During a hibernation no page frame is claimed, and no other hibernation begins. The power is cut after its first step."""
     check_transcript(B, """
         > hibernate
         more 0 of 15
@@ -208,7 +208,7 @@ def test_while_it_hibernates():
 
 
 def test_while_it_resumes():
-    """Nothing else begins, and as the disk has no image it is off again."""
+    """During a resume nothing else begins, and since the disk has no image the machine is off again."""
     check_transcript("""
         > zone 0 4096
         > area 3000
@@ -234,8 +234,8 @@ def test_while_it_resumes():
 
 def test_fresh_memory_hibernates():
     """The tables' page frames 0 to 6 are saved, so the image has 7 pages, a page of numbers and the info page. Nine pages, one map and the four
-    steps at the header block make 14. Page frames 5 and 6 have the entries of slots 1024 to 3000, which are free, so that they are all zero:
-    without them the image has 5 pages with data, and 12 steps."""
+    steps at the header block make 14 steps. Page frames 5 and 6 have the entries of slots 1024 to 3000, which are free, so they are all zero:
+    without them the image has 5 pages with data, and takes 12 steps."""
     for event, steps in [("hibernate", 14), ("hibernate zeros", 12)]:
         check_transcript("> zone 0 4096\n> area 3000", UP, f"""
             > {event}
@@ -246,11 +246,11 @@ def test_fresh_memory_hibernates():
         """)
 
 
-# Frames and slots, just enough and one too few.
+# Page frames and slots: exactly enough, and one too few.
 
 
 def check_hibernation(settings, reply):
-    """What a machine that has booted answers to a hibernation."""
+    """Checks what a machine that has booted replies to a hibernation."""
     check_transcript(settings, UP, f"> hibernate\n{reply}")
 
 
@@ -260,7 +260,7 @@ def test_frames_just_enough():
 
 
 def test_slots_just_enough():
-    """A bad slot that is named twice is one slot less."""
+    """A bad slot that is named twice counts once."""
     for area, reply in [
         ("> area 1537", "no slots 1537 need 1538"),
         ("> area 1538", "more 0 of 518"),
@@ -295,7 +295,7 @@ def test_loader_frames_just_enough():
 
 
 def test_a_loader_frame_too_few():
-    """The image is gone then."""
+    """Afterwards the image is gone."""
     check_transcript(LOADED, """
         > resume 0-4009
         loading 0
@@ -312,7 +312,7 @@ def test_a_loader_frame_too_few():
 
 
 def test_regions_of_a_loader():
-    """A region without flags is free to a loader, one with flags isn't."""
+    """A region without flags is free to a loader; one with flags isn't."""
     check_transcript(LOADED, """
         > resume 0-6 85-4095
         loading 0
@@ -335,7 +335,7 @@ def test_regions_of_a_loader():
         """)
 
 
-# Images that come back.
+# Images that are resumed.
 
 PIECES = "> extent 0 1 50\n> extent 1 3000 100"
 
@@ -435,7 +435,7 @@ def test_the_mark_of_a_swap_file():
 
 
 def test_the_last_page_frame():
-    """Page frames 4096 to 65534 lie between the zones. The frame table has 64 page frames, so there are 67 of the tables."""
+    """Page frames 4096 to 65534 lie between the zones. The frame table takes 64 page frames, so the tables take 67."""
     check_transcript("""
         > zone 0 4096
         > zone 65535 1
@@ -464,7 +464,7 @@ def test_the_last_page_frame():
 
 
 def test_the_first_page_frame():
-    """Page frame 0 is a task's where the tables lie elsewhere."""
+    """Page frame 0 is a task's if the tables are elsewhere."""
     check_transcript("> tables 4092 100", UP, """
         > claim 3 0
         ok

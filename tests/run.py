@@ -1,9 +1,9 @@
 #!/usr/bin/env python3
-"""run.py [NAME..]: runs the tests of this folder over the built programs, or those of the files with these names.
+"""run.py [NAME..]: runs the tests of this folder, or of the files with these names, on the built programs.
 
-The programs are those that `rt run` or `rt ci` leaves, as crates/swsusp/out/swsusp, or where the variables SWSUSP, SWSUSP_MACHINE and
-SWSUSP_IMAGE say. A test is a function whose name begins with `test_`, in a file whose name ends with
-`_tests.py`. The status is 1 where one fails, and then it says which and why.
+The programs are those that `rt run` or `rt ci` leaves, such as crates/swsusp/out/swsusp, or those that the variables SWSUSP,
+SWSUSP_MACHINE and SWSUSP_IMAGE name. A test is a function whose name begins with `test_`, in a file whose name ends with
+`_tests.py`. If a test fails, the status is 1 and the test and its reason are printed.
 """
 import importlib
 import os

@@ -1,9 +1,9 @@
-"""Scripts with a line at fault: the line's number and the kind of its fault, and the ends of the ranges that numbers have."""
+"""Scripts with a line at fault: the line's number and the kind of its fault, and the ends of the ranges of numbers."""
 from harness import check_refused, check_same, run
 
 
 def check_script(script, fault=None):
-    """The script is played, or refused for this fault: the line's number and the kind."""
+    """Checks that the script is played, or refused for this fault: the line's number and the kind."""
     ran = run("swsusp", "replay", stdin=script.encode())
     if fault:
         check_refused(ran, f"script line {fault}", status=3)
@@ -52,7 +52,7 @@ def test_faulty_scripts():
 
 
 def test_armed_and_settled():
-    """The lines that let calls of the disk fail, and the one that settles."""
+    """The lines that let calls of the disk fail, and the line that settles."""
     check_scripts({
         "arm 1 0 0": None,
         "arm 1000000 1000000 18446744073709551615": None,
@@ -69,7 +69,7 @@ def test_armed_and_settled():
 
 
 def test_sent_to_sleep_and_woken():
-    """The lines that send a machine to sleep, and the one that wakes it."""
+    """The lines that send a machine to sleep, and the line that wakes it."""
     check_scripts({
         "suspend": None,
         "suspend zeros": None,
@@ -118,8 +118,8 @@ def test_ranges_of_a_resume():
 
 
 def test_ends_of_ranges():
-    """Both ends of the range of each number of a setting. Where it is in its range, the machine can still be faulty, which the end of the
-    script tells."""
+    """Both ends of the range of each number of a setting. Even if a number is in its range, the machine can be faulty, which is reported at the
+    end of the script."""
     check_scripts({
         "zone 0 1\ntables 0 0": "3 Hardware",
         "zone 0 65536": None,
@@ -190,7 +190,7 @@ def test_faulty_machines():
 
 
 def test_late_settings():
-    """Each setting is late after an event, before its words are counted."""
+    """After an event each setting is refused as late, before its words are counted."""
     for script in [
         "boot\nzone 0 10",
         "boot\narea 9",

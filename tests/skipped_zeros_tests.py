@@ -1,4 +1,4 @@
-"""Images whose pages of zeros have no data page, and their twins in the plain format, which have one for each page frame."""
+"""Images whose pages of zeros have no data page, and their twins in the plain format, which have a data page for each page frame."""
 import struct
 
 from harness import check, check_refused, check_same, run
@@ -10,12 +10,12 @@ MARKED = 2**63
 
 
 class Zeroed(Built):
-    """A plain image in which the pages of some saved page frames, by their places from 0, are zeros."""
+    """A plain image in which the pages of some saved page frames, given by their places from 0, are zeros."""
 
     flags = 2
 
     def __init__(self, saved, zeros):
-        # Each twin's area is that of the plain one, so that they differ in the image alone.
+        # Both twins have the area of the plain image, so that they differ only in the image.
         super().__init__(saved, flags=self.flags)
         self.zeros = set(zeros)
         lists = (saved + 511) // 512
@@ -107,7 +107,7 @@ def test_twins_differ_in_their_flags_alone():
 
 def test_damage_stops_a_stream_before_it():
     plain, skipped = twins(1500, set(range(300, 1100)))
-    # The entries of number page 2, and of the data page of place 1100, which is that of place 300 in the stream of data pages.
+    # The entries of number page 2, and of the data pages of places 299 and 1100; the latter is data page 300 of the stream.
     for entry, front in [(2, 2), (1 + 3 + 299, 1 + 3 + 299), (1 + 3 + 300, 1 + 3 + 1100)]:
         damaged = Skipped(1500, skipped.zeros)
         damaged.put_entry(1, entry, 0)
@@ -115,7 +115,7 @@ def test_damage_stops_a_stream_before_it():
         check_refused((ran[0], b"", ran[2]), f"map 1 block {damaged.maps[0]} entry {entry}: block 0", 1)
         check_same("the stream", ran[1], streamed(plain)[: front * PAGE])
         check_same("the area", after, before)
-    # The last damage lies after the data page of place 299, and a page of zeros is told by its number.
+    # The last damage comes after the data page of place 299, and the number of a page of zeros says what it is.
     check(paged(damaged, damaged.numbers[299])[0], 0, damaged.data[299])
     ran, _, _ = paged(damaged, damaged.numbers[400])
     check(ran, 0, bytes(PAGE))
@@ -128,7 +128,7 @@ def test_a_number_of_data_pages_that_is_wrong_refuses():
     for command in ["stream", "core", "loader"]:
         ran = ran_over(built, command)[0]
         check_same("the note of " + command, (ran[0], ran[2]), (1, line + "\n"))
-    # The page frame's number is met before the number page in which the number is told; its data page comes after it.
+    # The page frame's number comes before the number page with the wrong number; its data page comes after it.
     check_refused(paged(built, built.numbers[0])[0], line, 1)
     check(paged(built, built.numbers[5])[0], 0, bytes(PAGE))
 

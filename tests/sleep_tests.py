@@ -6,15 +6,15 @@ import itertools
 
 from harness import ALL, MARK, NONE, Play, check_transcript, counts
 
-# How many steps a suspend has, and a resume, of the 6 page frames of the tables and the task's: they have 9 pages.
+# The number of steps of a suspend, and of a resume, of the tables' 6 page frames and the task's one: the image has 9 pages.
 STEPS = 14
 
 PICKS = [NONE, ALL, MARK]
 
-# Of the header block one sector alone, each in turn.
+# Only one sector of the header block, each in turn.
 HEADER_SECTORS = [1 << sector for sector in range(8)]
 
-# A machine boots, its task 3 stores 77 in its page frame 10, and it falls asleep: the 7 page frames of its tables and the task's have
+# A machine boots, its task 3 stores 77 in its page frame 10, and it falls asleep: the image of the tables' 7 page frames and the task's has
 # 10 pages.
 BOOT = """
     > zone 0 4096
@@ -51,7 +51,7 @@ WAKES = """
 
 
 def test_sleep_and_wake():
-    """It wakes and goes on, and its image is gone."""
+    """The machine wakes and goes on, and its image is gone."""
     check_transcript(SLEPT, WAKES, """
         > store 3 10 0 78
         ok
@@ -68,7 +68,7 @@ def test_sleep_and_wake():
 
 
 def test_cut_before_it_wakes():
-    """The power fails before the mark that was taken back is synced: the image is resumed."""
+    """The power fails before the cleared mark is synced: the image is resumed."""
     check_transcript(SLEPT, """
         > wake
         more 0 of 3
@@ -88,7 +88,7 @@ def test_cut_before_it_wakes():
 
 
 def test_a_wake_that_fails():
-    """The sync of a wake fails: it sleeps on."""
+    """The sync of a wake fails: the machine sleeps on."""
     check_transcript(SLEPT, """
         > arm 3 1 0
         ok
@@ -104,7 +104,7 @@ def test_a_wake_that_fails():
 
 
 def test_sleep_without_zeros():
-    """Without its pages of zeros, page frames 5 and 6 of the slot table, an image has 8 pages. The machine wakes, sleeps again and is
+    """Without its pages of zeros, those of page frames 5 and 6 of the slot table, an image has 8 pages. The machine wakes, sleeps again and is
     resumed."""
     check_transcript(BOOT, """
         > suspend zeros
@@ -135,7 +135,7 @@ def test_sleep_without_zeros():
 
 
 def later(word):
-    """The word that is stored once the page with the first one is out."""
+    """Returns the word that is stored after the page with the first word has gone out."""
     return word ^ 1
 
 
@@ -146,19 +146,19 @@ class Nights(Play):
         super().__init__("area 1100\n")
 
     def boots(self, word):
-        """A machine boots, and its task stores the word, whose page goes out to a slot. Then it stores another."""
+        """A machine boots, and its task stores the word, whose page goes out to a slot. Then the task stores another word."""
         self.turn("boot\nsteps core 2", "more 0 of 2", "more 1 of 2", "booted image no")
         self.turn(f"claim 3 10\nstore 3 10 0 {word}", "ok", "ok")
         self.turn("out 3 10\nstep 3", "slot 1", "written 1")
         self.turn(f"store 3 10 0 {later(word)}", "ok")
 
     def suspends(self, steps=STEPS):
-        """It makes so many steps of a suspend, one at least."""
+        """The machine makes `steps` steps of a suspend, at least one."""
         last = ["asleep 7"] if steps == STEPS else []
         self.turn(f"suspend\nsteps core {steps}", *counts("more ", 0, min(steps, STEPS - 1), " of 14"), *last)
 
     def sleeps(self):
-        """It sleeps, and nobody goes on."""
+        """The machine sleeps, and no task goes on."""
         self.turn("show 3 10 0\nstep 3\nstep core", "sleeping", "idle", "idle")
 
     def wakes(self, steps=3):
@@ -166,7 +166,7 @@ class Nights(Play):
         self.turn(f"wake\nsteps core {steps}" if steps else "wake", *counts("more ", 0, min(steps, 2), " of 3"), *last)
 
     def goes_on(self, word):
-        """It goes on with the words that it had, and with the slots that the image had."""
+        """The machine goes on with its words, and with the slots that the image had."""
         self.turn("show 3 10 0", f"word {later(word)}")
         self.turn("out 3 10\nstep 3\nstore 3 10 0 5", "slot 2", "written 2", "ok")
         self.turn("in 3 1 10\nstep 3", "reading 1", "read 1")
@@ -176,7 +176,7 @@ class Nights(Play):
         self.turn(f"cut {pick}", "cut")
 
     def ends(self, word, image):
-        """After a cut: a machine that boots finds the image, or none, and one that resumes after it has the words of the one that was cut."""
+        """After a cut a machine that boots finds the image, or none. A machine that is then resumed has the words of the one whose power was cut."""
         self.turn("boot\nsteps core 2", "more 0 of 2", "more 1 of 2", f"booted image {'yes' if image else 'no'}")
         if image:
             self.turn("out 3 10\ncut 0", "not owner", "cut")
@@ -194,7 +194,7 @@ class Nights(Play):
 
 
 def test_nothing_to_wake():
-    """A machine that is off, boots, runs or saves its memory isn't woken."""
+    """A machine that is off, boots, runs or saves its memory can't be woken."""
     play = Nights()
     play.tells("""
         > wake
@@ -287,7 +287,7 @@ def test_refused_while_it_wakes():
 
 
 def test_closed_by_an_image():
-    """The image that a machine finds when it boots keeps it from a suspend until it is settled."""
+    """If a machine finds an image when it boots, it can't be suspended until the image is settled."""
     play = Nights()
     play.boots(77)
     play.suspends()
@@ -319,7 +319,7 @@ def test_closed_by_an_image():
 
 
 def check_suspend(zone, area, region, reply):
-    """What a machine that has booted answers to a suspend."""
+    """Checks what a machine that has booted replies to a suspend."""
     check_transcript(f"""
         > {zone}
         > {area}
@@ -344,11 +344,11 @@ def test_slots_just_enough():
     check_suspend("zone 0 2048", "area 1538", "region 4 506 0", "more 0 of 518")
 
 
-# Cuts, by what the sectors that aren't synced keep.
+# Power cuts, for different sets of unsynced sectors that survive.
 
 
 def test_suspends_that_are_cut():
-    """The power is cut after each step of a suspend. From step 13 on the mark is written, and from 14 on, where the machine sleeps, it is
+    """The power is cut after each step of a suspend. From step 13 on the mark is written, and from step 14 on, when the machine sleeps, it is
     synced."""
     play = Nights()
     for pick in PICKS + HEADER_SECTORS:
@@ -361,7 +361,7 @@ def test_suspends_that_are_cut():
 
 
 def test_wakes_that_are_cut():
-    """The power is cut before each step of a wake, and after the last. From step 2 on the mark is taken back, and from 3 on, where the
+    """The power is cut before each step of a wake, and after the last. From step 2 on the mark is cleared, and from step 3 on, when the
     machine goes on, that is synced."""
     play = Nights()
     for pick in PICKS + HEADER_SECTORS:
@@ -378,7 +378,7 @@ def test_wakes_that_are_cut():
 
 
 def test_the_last_of_four_images():
-    """A machine sleeps and wakes again and again, with another word each time; what is resumed in the end is the last image."""
+    """A machine sleeps and wakes again and again, each time with another word. In the end the last image is resumed."""
     play = Nights()
     play.boots(7)
     for word in [10, 11, 12]:
@@ -393,10 +393,10 @@ def test_the_last_of_four_images():
     play.check()
 
 
-# Calls of the disk that fail, each in turn. A write that fails has reached no sector, each one, or that of the mark alone.
+# Calls of the disk that fail, each in turn. A write that fails has reached no sector, each sector, or only that of the mark.
 
-# What a suspend answers where its call of this number fails, and the replies to the steps of the undo: the pages and their map are 10
-# writes, then come a sync, a read, the write of the mark and a sync.
+# The reply to a suspend whose call of this number fails, and the replies to the steps of the undo. The pages and their map are 10
+# writes; then come a sync, a read, the write of the mark and a sync.
 FAULTS = {
     **{call: ("write fault same", ["idle"]) for call in range(1, 11)},
     11: ("sync fault same", ["idle"]),
@@ -407,13 +407,13 @@ FAULTS = {
 
 
 def fails(play, call, count, reached, fault):
-    """A suspend whose calls fail from this one on, so many of them, up to the first that does."""
+    """A suspend in which `count` calls from number `call` on fail, up to the first failure."""
     replies = counts("more ", 1, call - 1, " of 14")
     play.turn(f"suspend\narm {call} {count} {reached}\nsteps core {call}", "more 0 of 14", "ok", *replies, fault)
 
 
 def test_suspends_that_fail():
-    """A suspend that fails leaves a machine that goes on, and no image."""
+    """After a suspend that fails the machine goes on, and no image exists."""
     play = Nights()
     for reached, pick in itertools.product(PICKS, PICKS):
         for call, (fault, undone) in FAULTS.items():
@@ -428,7 +428,7 @@ def test_suspends_that_fail():
 
 
 def test_undoes_that_fail():
-    """So does the undo: an image may be there, and nothing goes to a slot."""
+    """The undo fails too: an image may exist, and no page goes to a slot."""
     play = Nights()
     for reached, pick in itertools.product(PICKS, PICKS):
         marked = reached & MARK == 0 and pick & MARK != 0
@@ -451,7 +451,7 @@ def wake_fails(play, call, reached):
 
 
 def test_wakes_that_fail():
-    """The power is cut then, or it wakes at the next try and goes on."""
+    """Then the power is cut, or the machine wakes at the next try and goes on."""
     play = Nights()
     for reached, pick in itertools.product(PICKS, PICKS):
         for call in [1, 2, 3]:

@@ -1,7 +1,7 @@
 /*
- * stack IMAGE FRAMES: how much stack a call of the library takes. Resumes the image of the file IMAGE without writing
- * to it, and makes each call on a stack of its own that was painted before. Prints the most bytes of each function, with
- * those that the change of stacks takes, which the line `nothing` has; status 1 above 64 KiB.
+ * stack IMAGE FRAMES: measures how much stack a call of the library takes. Resumes the image of the file IMAGE without
+ * writing to it, and makes each call on a stack of its own that was painted before. Prints the most bytes that each
+ * function takes, including those of the change of stacks, which the line `nothing` shows; status 1 above 64 KiB.
  */
 #define _XOPEN_SOURCE 700
 #include <assert.h>
@@ -42,7 +42,7 @@ static void check_fail(void) { code = swsusp_check_fail(&checking, words, 1024, 
 static void inspect(void) { code = swsusp_inspect(page, sizeof page, &header); }
 static void nothing(void) { }
 
-/* How many bytes of the painted stack a call changes. */
+/* Returns how many bytes of the painted stack a call changes. */
 static size_t taken(void (*function)(void))
 {
     ucontext_t here, there;
@@ -69,7 +69,7 @@ static void read_block(FILE *file, uint64_t block)
     assert(fseek(file, (long)(block * SWSUSP_PAGE), SEEK_SET) == 0 && fread(page, sizeof page, 1, file) == 1);
 }
 
-/* The most that an answer of a whole resume takes. */
+/* Returns the most that a reply to a call takes in a whole resume. */
 static size_t answers(FILE *file)
 {
     size_t most = 0;
@@ -102,7 +102,7 @@ static size_t check_answers(FILE *file)
     return most;
 }
 
-/* The most that a failure takes, of the header's read or a later one. */
+/* Returns the most that a failure takes, of the header's read or of a later read. */
 static size_t check_failures(FILE *file)
 {
     size_t most;

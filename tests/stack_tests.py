@@ -11,11 +11,11 @@ from inputs import Machine, area
 
 KIB = 1024
 STACK = 256 * KIB
-# These keep lists of facts in their frames, each with room for 630 bad pages.
+# `show`, `core` and `differ` keep lists of facts in their frames, each with room for 630 bad pages.
 SHOW_STACK = 512 * KIB
 CORE_STACK = 896 * KIB
 DIFFER_STACK = 1024 * KIB
-# These keep what an image says of its area, with its bad pages, in several frames.
+# The commands that write dumps keep what an image says of its area, with its bad pages, in several frames.
 DUMP_STACK = 512 * KIB
 # The disk that expands a compressed image keeps its header block and its info page in its frame.
 COMPRESSED_STACK = 384 * KIB
@@ -23,7 +23,7 @@ SCRIPT = (pathlib.Path(__file__).resolve().parent.parent / "examples" / "machine
 
 
 def within(*words, stdin=b"", stack=STACK):
-    """Runs a command with that much stack, which is to end by itself."""
+    """Runs a command with `stack` bytes of stack, and checks that it ends with status 0. Returns its output."""
     limit = lambda: resource.setrlimit(resource.RLIMIT_STACK, (stack, stack))
     words = [programs[words[0]], *map(str, words[1:])]
     ran = subprocess.run(words, input=stdin, capture_output=True, preexec_fn=limit, timeout=120, check=False)

@@ -1,4 +1,4 @@
-"""Streams: what `export` writes of a machine, what `import` takes, and what it refuses. The stream is put together here by the tables of
+"""Streams: what `export` writes of a machine, what `import` takes, and what it refuses. The streams are put together here by the tables of
 docs/FORMATS.md."""
 import struct
 
@@ -13,7 +13,7 @@ SAVED = [0, 1, 2, 3, 10]
 
 
 def example_stream():
-    """The info page, the page of the numbers, and the pages of the saved page frames."""
+    """Returns the info page, the number page, and the pages of the saved page frames."""
     names = b"".join(name.ljust(65, b"\0") for name in NAMES) + bytes(2)
     info = names + struct.pack("<6Q", 393472, 2048, 0, 5, 7, 28672)
     numbers = struct.pack("<6Q", *SAVED, END)
@@ -41,7 +41,7 @@ def test_no_dump():
 
 
 def test_as_a_hibernation_leaves_it():
-    """The disk is that of a hibernation of the same machine, and what is resumed is the machine."""
+    """The disk is the same as after a hibernation of the same machine, and a resume gives the machine back."""
     with area() as hibernated, area() as swap:
         check_line(hibernate(hibernated), "hibernated 5")
         check_line(taken(swap, example_stream()), "imported 5")
@@ -52,7 +52,7 @@ def test_as_a_hibernation_leaves_it():
 
 
 def check_no_stream(stream, note):
-    """The input is refused with this note, and the header block is as before."""
+    """Checks that the input is refused with this note, and that the header block is as before."""
     with area() as swap:
         check_refused(taken(swap, stream), note, status=3)
         check_same("the header block", swap.block(0), header(1599))
@@ -75,7 +75,7 @@ def test_what_is_no_stream():
 
 
 def numbered(saved, pages, numbers):
-    """The first two pages of a stream that says these counts."""
+    """Returns the first two pages of a stream with these counts."""
     info = bytes(416) + struct.pack("<2Q", saved, pages)
     return info.ljust(4096, b"\0") + struct.pack(f"<{len(numbers)}Q", *numbers).ljust(4096, b"\0")
 
@@ -86,8 +86,8 @@ def test_counts_that_no_stream_has():
 
 
 def test_words_of_a_number_page():
-    """Each eighth word in turn is too large, or as the one before it; the word after the last number is none; and then the pages are
-    missing."""
+    """Every eighth word in turn is too large, or repeats the one before it; the word after the last number isn't the end value; and then the
+    pages are missing."""
     whole = [*range(511), END]
     for i in range(7, 511, 8):
         check_no_stream(numbered(511, 513, [*whole[:i], 65536, *whole[i + 1 :]]), f"stream Pfn byte {4096 + 8 * i}")
@@ -97,7 +97,7 @@ def test_words_of_a_number_page():
 
 
 def check_area(blocks, first, note):
-    """An area with this header block refuses the stream with this note, and stays as it is."""
+    """Checks that an area with this header block refuses the stream with this note, and stays as it is."""
     with disk(blocks, first) as swap:
         before = swap.bytes()
         check_refused(taken(swap, example_stream()), note)
@@ -105,7 +105,7 @@ def check_area(blocks, first, note):
 
 
 def test_areas_that_are_refused():
-    """7 pages, and 1026 slots that are to stay free: 1033 slots are enough, and 1032 aren't."""
+    """7 pages, and 1026 slots that must stay free: 1033 slots are enough, and 1032 aren't."""
     check_area(1600, ZERO_PAGE, "no swap: signature 00000000000000000000")
     check_area(1600, header(1600), "no swap: short 1600 blocks 1600")
     check_area(1600, header(1032), "no slots 1032 need 1033")
@@ -117,7 +117,7 @@ def test_areas_that_are_refused():
 
 
 def test_slots_that_are_passed_over():
-    """Slots 1 and 3 are bad: the map lies in block 2, and its pages in 4 and the blocks after it."""
+    """Slots 1 and 3 are bad: the map is in block 2, and its pages are in block 4 and the blocks after it."""
     with disk(1600, header(1599, [1, 3])) as swap:
         check_line(taken(swap, example_stream()), "imported 5")
         check_line(inspect(swap), "area last 1599 bad 2 image 2 flags 2 hw -")

@@ -57,7 +57,7 @@ def test_tasks_that_swap():
 
 
 def test_slots_across_a_resume():
-    """A page that went out before a hibernation comes back after the resume with the bytes that it had when it went."""
+    """A page that went out before a hibernation comes back after the resume with the bytes that it had when it went out."""
     check_transcript(BOOT, """
         > out 3 10
         slot 1
@@ -148,7 +148,7 @@ def test_refusals():
 
 
 def test_three_tasks_over_five_slots():
-    """Up to a full area, and its last slot given back and taken again."""
+    """Pages go out until the area is full, and its last slot is given back and taken again."""
     check_transcript("> area 5", UP, STORES, """
         > claim 1 11
         ok
@@ -216,7 +216,7 @@ def test_three_tasks_over_five_slots():
 
 
 def test_faults_on_the_way():
-    """A write that fails gives its slot back; a read that fails leaves frame and slot."""
+    """A write that fails gives its slot back; a read that fails leaves page frame and slot as they were."""
     check_transcript(BOOT, """
         > out 3 10
         slot 1
@@ -252,7 +252,7 @@ def test_faults_on_the_way():
 
 
 def test_cut_on_the_way():
-    """What was on its way is gone with the power, and so is what the slots held."""
+    """A page on its way is lost with the power, and so is what the slots held."""
     check_transcript(BOOT, """
         > out 3 10
         slot 1
@@ -273,7 +273,7 @@ def test_cut_on_the_way():
 
 
 def test_closed_for_outs_alone():
-    """While an image is perhaps there no page goes out, but one may come in."""
+    """While an image may exist no page goes out, but one may come in."""
     check_transcript(BOOT, """
         > out 3 10
         slot 1
@@ -333,7 +333,7 @@ def test_what_is_cached_is_dropped():
 
 
 def test_a_hibernation_that_fits_then():
-    """One page frame fewer that is to be saved, and one more that is free."""
+    """One page frame less to save, and one more that is free."""
     check_transcript("""
         > zone 0 4024
         > area 3000
@@ -349,7 +349,7 @@ def test_a_hibernation_that_fits_then():
 
 
 def test_a_page_that_a_task_has_cached():
-    """What a task has marked as cached isn't its own any more once it is dropped."""
+    """A page frame that a task has marked as cached isn't the task's any more once it is dropped."""
     check_transcript(BOOT, """
         > cache 3 10
         ok
@@ -365,7 +365,7 @@ def test_a_page_that_a_task_has_cached():
 
 
 def test_only_what_is_cached_from_below():
-    """A frame with another flag beside CACHE stays, and so does one in a second zone as long as the first has enough."""
+    """A page frame with another flag beside CACHE stays, and so does one in a second zone as long as the first zone has enough."""
     check_transcript("""
         > zone 0 200
         > zone 300 3000

@@ -1,9 +1,9 @@
-"""Each of the 256 sets of the header block's sectors that a cut may keep, or a write that fails may have reached: just the mark's sector
-decides whether the image is there, and it is resumed at most once."""
+"""Each of the 256 sets of the header block's sectors that may survive a cut, or that a failing write may have reached: only the mark's sector
+decides whether the image exists, and it is resumed at most once."""
 from harness import ALL, MARK, NONE, Play, counts
 
-# How many steps a hibernation has, and a resume, of the 4 page frames of the tables and the task's: they have 7 pages and a map. In a
-# hibernation the mark is written by step 11, and in a resume it is taken back by step 3.
+# The number of steps of a hibernation, and of a resume, of the tables' 4 page frames and the task's one: the image has 7 pages and a map. A
+# hibernation has written the mark by step 11, and a resume has cleared it by step 3.
 STEPS = 12
 
 # The sets of a block's 8 sectors.
@@ -17,7 +17,7 @@ class Torn(Play):
         super().__init__("zone 0 1100\narea 1100\n")
 
     def begins(self, word):
-        """It boots, its task stores the word, and a hibernation begins."""
+        """The machine boots, its task stores the word, and a hibernation begins."""
         self.turn("boot\nsteps core 2", "more 0 of 2", "more 1 of 2", "booted image no")
         self.turn(f"claim 3 10\nstore 3 10 0 {word}", "ok", "ok")
         self.turn("hibernate", "more 0 of 12")
@@ -40,7 +40,7 @@ class Torn(Play):
         self.turn(f"cut {pick}", "cut")
 
     def ends(self, word, image):
-        """It is resumed with its word, where there is an image; and then there is none."""
+        """If an image exists, the machine is resumed with its word. After that no image exists."""
         if image:
             self.loads(STEPS - 1)
             self.turn("step core\nshow 3 10 0", "resumed 5", f"word {word}")
@@ -49,7 +49,7 @@ class Torn(Play):
 
 
 def test_marks_that_are_cut():
-    """The mark is written, and not synced."""
+    """The mark is written, but not synced."""
     play = Torn()
     for pick in SETS:
         play.begins(pick)
@@ -60,7 +60,7 @@ def test_marks_that_are_cut():
 
 
 def test_takings_back_that_are_cut():
-    """The mark is taken back, and that isn't synced."""
+    """The mark is cleared, but that isn't synced."""
     play = Torn()
     for pick in SETS:
         play.hibernates(pick)
@@ -71,7 +71,7 @@ def test_takings_back_that_are_cut():
 
 
 def test_marks_that_fail():
-    """The mark's write fails, and then the one that takes it back, which reaches no sector. The machine may have an image."""
+    """The mark's write fails, and then the write that clears the mark, which reaches no sector. The machine may have an image."""
     play = Torn()
     for pick in SETS:
         play.begins(pick)

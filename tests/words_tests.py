@@ -1,4 +1,4 @@
-"""Which words the programs take, and what they say of others."""
+"""The words that the programs take, and what they say of others."""
 import pathlib
 
 from harness import Mismatch, check, check_same, run
@@ -8,7 +8,7 @@ VERSION = (pathlib.Path(__file__).resolve().parent.parent / "VERSION").read_text
 COMMANDS = ["inspect", "hibernate", "resume", "replay", "drill", "export", "import"]
 MACHINE_COMMANDS = ["make", "draw", "loader", "core", "from-core", "show", "differ", "check"]
 
-# clap takes these, and yet they aren't plain.
+# clap takes these words, although they aren't plain.
 NOT_PLAIN = [
     ["inspect", ""],
     ["inspect", "-"],
@@ -42,7 +42,7 @@ NOT_PLAIN = [
     ["import", "--", "s"],
 ]
 
-# And these it refuses.
+# clap refuses these.
 REFUSED = [
     [],
     ["inspect"],
@@ -76,7 +76,7 @@ REFUSED = [
 
 
 def refused(*words):
-    """The note of a program that doesn't take the words."""
+    """Returns the note of a program that doesn't take the words."""
     status, out, note = run(*words)
     if (status, out) != (2, b"") or not note.endswith("\n"):
         raise Mismatch(f"{words}: status {status}, {out!r} and {note!r}")
@@ -107,7 +107,7 @@ def test_ranges_that_are_told():
 
 
 def test_help():
-    """Help and the version of `swsusp` are notes."""
+    """`swsusp` prints its help and its version as notes."""
     has(refused("swsusp", "--help"), *COMMANDS, "65,536", "131,072", "compressed")
     has(refused("swsusp", "--version"), f"swsusp {VERSION}")
     for command in COMMANDS:
@@ -120,7 +120,7 @@ def test_help():
 
 
 def test_help_for_machines():
-    """Help and the version of `swsusp_machine` are printed."""
+    """`swsusp_machine` prints its help and its version on standard output."""
     for words in [["--help"], ["help"], ["-h"]]:
         status, out, note = run("swsusp_machine", *words)
         if (status, note) != (0, ""):
@@ -145,7 +145,7 @@ def test_words_of_no_machine_command():
 
 
 def test_words_that_all_programs_answer_alike():
-    """Help and the version in each form, `--` and unknown words. `swsusp` alone ends with status 2 after help, and notes it."""
+    """Help and the version in each form, `--` and unknown words. Only `swsusp` prints help and version as a note, with status 2."""
     for program in ["swsusp", "swsusp_machine", "swsusp_image"]:
         asked = 2 if program == "swsusp" else 0
         for words in [["-h"], ["--help"], ["help"], ["-V"], ["--version"]]:

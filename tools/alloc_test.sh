@@ -1,11 +1,10 @@
 #!/bin/sh
-# Refuses each growth of memory in turn, one a run, in each command of the three built programs, those over images also over a compressed one: the status is 6, the note `no memory`,
-# nothing is printed, and every byte of the disk is as before. After the last growth the command does what it does with ample memory,
-# and so it does without the room that is asked for beforehand for its list of words, before the command begins. The programs
-# are the three words, or those in crates/*/out, which `rt run` and `rt ci` leave. They are run with a library that is loaded
-# before them, made here by cc (over glibc), whose malloc and realloc fail at the call that is asked for (`rt try --fail-alloc N`
-# does so too, but builds the program anew for each N). Prints a line for each command, and ends with status 1 where one differs;
-# skips, with status 0, without cc.
+# Refuses each growth of memory in turn, one per run, in each command of the three built programs; commands that take images are run over a
+# compressed one too. Each time the status is 6, the note is `no memory`, nothing is printed, and every byte of the disk is as before. After the
+# last growth the command does what it does with ample memory. It also does so without the room for its list of words, which is asked for before
+# the command begins. The programs are the three words, or those in crates/*/out, which `rt run` and `rt ci` leave. A library is loaded before
+# them, made here by cc (over glibc), whose malloc and realloc fail at a given call (`rt try --fail-alloc N` does so too, but builds the program
+# anew for each N). Prints a line for each command, and ends with status 1 if one differs. Without cc it is skipped, with status 0.
 set -u
 top=$(cd "$(dirname "$0")/.." && pwd)
 swsusp=${1:-$top/crates/swsusp/out/swsusp}
@@ -26,7 +25,7 @@ trap 'trap "" PIPE HUP INT TERM; rm -rf "$room"' EXIT
 trap 'exit 1' PIPE HUP INT TERM
 failed=0
 
-# Call REFUSED of malloc and realloc finds no memory. At the end the number of calls goes into the file GROWTHS.
+# Call number REFUSED of malloc and realloc finds no memory. At the end the number of calls is written into the file GROWTHS.
 cat >"$room/refuse.c" <<'EOF'
 #include <fcntl.h>
 #include <stdio.h>
@@ -60,7 +59,7 @@ __attribute__((destructor)) static void tell(void) {
 EOF
 cc -O1 -shared -fPIC -o "$room/refuse.so" "$room/refuse.c" || exit 1
 
-# Runs the program with call $1 refused, over a fresh copy of the disk: its status, note, and whether output and disk are as before.
+# Runs the program with call $1 refused, over a fresh copy of the disk. Prints its status, its note, and whether output and disk are as before.
 told() {
     call=$1
     shift
@@ -73,7 +72,7 @@ told() {
     echo "$status|$(head -c 200 "$room/note")|$(($(wc -c <"$room/out")))|$disk"
 }
 
-# Refuses each growth of a command of $program over this disk and input: the name, the disk, the input and the words.
+# Refuses each growth of a command of $program. The arguments are a name, the disk, the input and the command's words.
 each() {
     name=$1
     cp "$2" "$room/before"
@@ -134,7 +133,7 @@ each import "$room/area" "$room/stream" import "$room/disk"
 each export "$room/area" "$room/saved" export
 each replay "$room/area" "$top/examples/swap.txt" replay
 each drill "$room/area" "$room/nothing" drill 10
-# The text that tells what is wrong with words leaves out what there is no memory for.
+# The text that says what is wrong with words leaves out the parts for which there is no memory.
 each "words that aren't plain" "$room/area" "$room/nothing" inspect -- "$room/disk"
 each "words that don't parse" "$room/area" "$room/nothing" hibernate --fast "$room/disk"
 

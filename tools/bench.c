@@ -1,8 +1,8 @@
-/* bench.c: what `swsusp` does, without a proof and without a test of what it reads, to measure `swsusp` by.
+/* bench.c: does what `swsusp` does, without a proof and without a check of what it reads, as a measure for `swsusp`.
  *
  * bench hibernate AREA < DUMP, bench resume AREA < LOADER > DUMP, bench export < DUMP > STREAM, bench import AREA < STREAM:
- * the same work over the same files, by the tables of docs/FORMATS.md. bench cycle PAGES: a hibernation and a resume of so
- * many page frames over a disk in memory, as a script plays them. The input must be in order: nothing else is looked for.
+ * the same work over the same files, by the tables of docs/FORMATS.md. bench cycle PAGES: a hibernation and a resume of
+ * PAGES page frames over a disk in memory, as a script plays them. The input must be in order: faults aren't looked for.
  */
 #include <fcntl.h>
 #include <stdint.h>
@@ -200,7 +200,7 @@ static const void *stream_page(struct machine *m, struct image *i, uint64_t k, u
     return made;
 }
 
-/* The slots of an area that are free, ascending: an area of this machine, or all of a fresh one. */
+/* Returns the next free slot, in ascending order: of this machine's area, or of a fresh one. */
 static uint64_t next_slot(struct machine *m, uint64_t slot)
 {
     do
@@ -238,7 +238,7 @@ static void write_page(struct writer *w, const void *page)
     }
 }
 
-/* Writes the last map and syncs; then the mark, and syncs it. */
+/* Writes the last map and syncs; then writes the mark and syncs it. */
 static void mark_image(struct writer *w, uint32_t hw_sig)
 {
     unsigned char header[PAGE];
@@ -285,7 +285,7 @@ static void read_page(struct reader *r, void *into)
     read_block(r->disk, r->map[r->taken++], into);
 }
 
-/* Takes the mark back and syncs that; then reads the image into free page frames, and copies each page to its place. */
+/* Clears the mark and syncs that; then reads the image into free page frames, and copies each page to its place. */
 static uint64_t resume(struct machine *m, struct disk *d)
 {
     struct reader r = { .disk = d, .taken = ENTRIES };
@@ -310,7 +310,7 @@ static uint64_t resume(struct machine *m, struct disk *d)
     unsigned char *wanted = room(m->frames, 1);
     for (uint64_t k = 0; k < count; k++)
         wanted[i.numbers[k]] = 1;
-    /* A page whose frame is free goes there at once; another one waits in a free page frame that no page wants. */
+    /* A page whose page frame is free goes there at once; any other waits in a free page frame that no page wants. */
     for (uint64_t k = 0; k < count; k++) {
         uint64_t at = i.numbers[k];
         if (!is_free(m, at)) {
@@ -365,7 +365,7 @@ static uint64_t import_stream(struct disk *d)
     return count;
 }
 
-/* A machine of 4,096 page frames, whose tables are the first ones, and a disk of 3,001 blocks, both in memory. */
+/* Plays a machine of 4,096 page frames, whose tables are in the first ones, and a disk of 3,001 blocks, both in memory. */
 static void cycle(uint64_t pages)
 {
     struct machine m = { .slots = 3001, .slot_table = 4, .frames = 4096 };

@@ -1,14 +1,14 @@
 #!/bin/sh
-# Takes the time of a hibernation and of a resume of 32,000 page frames, on a machine with 65,536 of them and 131,072 slots, over
-# files, beside a copy of as many bytes that is synced (with python3), and the greatest memory of each, and so for an export and an
-# import of the image as a stream; and of `swsusp_image check` and `stream` beside a reading and a copy of the saved dump; and of `swsusp_image page` over
-# a compressed image beside a C program that expands it by liblzo2 (tools/bench_lzo.c, where that library is there). Each of the
-# first four is measured beside a C program that does the same work (tools/bench.c, where there is a cc), and so is a script's cycle: what both
-# leave must be the same, byte for byte. The system calls of the four are counted, where there is an strace. Then counts the
-# instructions of the built program by valgrind's callgrind: of an empty script, of a line that claims a page frame, of
-# a line that shows a word, of that line's parse alone, and of a hibernation and a resume of 1,500 page frames; and takes the time of a
-# boot, a hibernation and a resume of 15,000 page frames at a script's limits. The programs are the first and the second word, or
-# crates/swsusp/out/swsusp and crates/swsusp_image/out/swsusp_image, which `rt run` leaves. Without valgrind it says so and counts nothing.
+# Measures the time and the greatest memory of a hibernation and of a resume of 32,000 page frames, on a machine with 65,536 of them and 131,072
+# slots, over files, beside a synced copy of as many bytes (with python3). Does the same for an export and an import of the image as a stream;
+# for `swsusp_image check` and `stream` beside a reading and a copy of the saved dump; and for `swsusp_image page` over a compressed image beside
+# a C program that expands it by liblzo2 (tools/bench_lzo.c, if that library is installed). Each of the first four, and a script's cycle, is
+# measured beside a C program that does the same work (tools/bench.c, if there is a cc): what both leave must be the same, byte for byte. The
+# system calls of the four are counted, if there is an strace. Then valgrind's callgrind counts the instructions of the built program: for an
+# empty script, for a line that claims a page frame, for a line that shows a word, for the parse of that line only, and for a hibernation and
+# a resume of 1,500 page frames. Last it measures the time of a boot, a hibernation and a resume of 15,000 page frames at a script's limits. The
+# programs are the first and the second word, or crates/swsusp/out/swsusp and crates/swsusp_image/out/swsusp_image, which `rt run` leaves.
+# Without valgrind it says so and counts nothing.
 set -u
 top=$(cd "$(dirname "$0")/.." && pwd)
 program=${1:-$top/crates/swsusp/out/swsusp}
@@ -23,9 +23,8 @@ room=$(mktemp -d)
 trap 'trap "" PIPE HUP INT TERM; rm -rf "$room"' EXIT
 trap 'exit 1' PIPE HUP INT TERM
 
-# The seconds that a command takes from this input to this output, the greatest memory that it has, in MiB, and the seconds of a
-# processor. The memory is looked at
-# while it runs: what the system counts of a child that has ended has its parent's from before the child's own program.
+# Prints the seconds that a command takes from this input to this output, its greatest memory in MiB, and its processor seconds. The memory is
+# read while it runs: what the system counts for a child that has ended includes its parent's, from before the child's own program.
 measure() {
     python3 -c '
 import re, resource, subprocess, sys, time
@@ -49,7 +48,7 @@ print("%.3f %d %.3f" % (seconds, -(-most // 1024), used.ru_utime + used.ru_stime
 ' "$@"
 }
 
-# Tells what a command took beside a copy: its name, then the seconds and the memory of both.
+# Prints what a command took beside a copy. The arguments are its name, then the seconds and the memory of both.
 beside() {
     awk -v name="$1" -v own="$2" -v copy="$3" 'BEGIN {
         split(own, a); split(copy, b)
@@ -57,7 +56,7 @@ beside() {
     }'
 }
 
-# Tells what a command took beside the C program, which has done the same, and that both left the same.
+# Prints what a command took beside the C program, which did the same work, and checks that both left the same.
 against() {
     [ -x "$room/bench" ] || return 0
     cmp -s "$3" "$4" || { echo "$3 isn't what the C program leaves"; exit 1; }
@@ -74,7 +73,7 @@ else
     echo "not measured beside C: no cc is there"
 fi
 
-# Tells the system calls that a command makes, from this input to this output, most first.
+# Prints the system calls that a command makes from this input to this output, the most frequent first.
 calls() {
     command -v strace >/dev/null || return 0
     name=$1 source=$2 target=$3
@@ -85,7 +84,7 @@ calls() {
             END { printf "system calls, %s: %s, and %d others\n", name, told, rest }'
 }
 
-# What the C program takes, where it is there.
+# Measures the C program, if there is one.
 in_c() {
     [ ! -x "$room/bench" ] || measure "$@"
 }
@@ -135,7 +134,7 @@ calls exported "$room/saved" "$room/stream" "$program" export
 calls imported "$room/stream" /dev/null "$program" import "$room/area"
 rm -f "$room/area" "$room/area_c" "$room/saved" "$room/loader" "$room/restored" "$room/stream" "$room/copy"
 
-# A compressed image of as many page frames, which hold the program's own bytes: `page` reads it whole and expands each unit once, and so
+# A compressed image of as many page frames, which hold the program's own bytes. `page` reads the whole image and expands each unit once, and so
 # does the C program, by the safe decompressor of liblzo2.
 if command -v cc >/dev/null && cc -O2 -Wall -Wextra -Werror -std=c11 -D_DEFAULT_SOURCE -o "$room/bench_lzo" "$top/tools/bench_lzo.c" -llzo2 2>/dev/null; then
     sh "$top/tools/make_area.sh" "$room/area" 131071
@@ -161,13 +160,13 @@ if ! command -v valgrind >/dev/null; then
     exit 0
 fi
 
-# So many lines of a command, which begins with the page frame where one is named.
+# Prints a command $1 times; the word FRAME stands for a page frame, another one in each line.
 lines() {
     awk -v n="$1" -v text="$2" 'BEGIN { for (i = 0; i < n; i++) { line = text; sub(/FRAME/, 16 + i, line); print line } }'
 }
 
-# How many instructions a command takes. Where the processor has string instructions the C library would fill memory by one that
-# valgrind counts byte for byte, so it is told not to.
+# Counts the instructions of a command. On a processor with fast string instructions the C library would fill memory by one that valgrind
+# counts byte for byte, so it is told not to.
 instructions() {
     GLIBC_TUNABLES=glibc.cpu.hwcaps=-ERMS valgrind --tool=callgrind --callgrind-out-file=/dev/null "$@" 2>&1 >/dev/null |
         sed -n 's/.*Collected *: *//p'
@@ -184,7 +183,7 @@ steps=1518
 { cat "$room/claims" && printf 'hibernate\nsteps core %d\nresume\nsteps core %d\n' $steps $steps; } >"$room/cycle"
 { printf 'boot\nsteps core 2\nclaim 1 16\n'; } >"$room/one"
 { cat "$room/one" && lines 10000 'show 1 16 3'; } >"$room/shows"
-# A script is parsed whole before it is played: one whose last line is none is only parsed.
+# A script is parsed as a whole before it is played, so a script whose last line is invalid is only parsed.
 { cat "$room/one" && echo none; } >"$room/one_parsed"
 { cat "$room/shows" && echo none; } >"$room/shows_parsed"
 

@@ -1,10 +1,10 @@
-/* bench_lzo.c: compressed images by liblzo2, to measure `swsusp_image` by, and to try it with what another compressor writes.
+/* bench_lzo.c: compressed images by liblzo2, to measure `swsusp_image` and to try it with another compressor's images.
  *
- * bench_lzo pack PLAIN NEW [KIND]: writes the image of the area PLAIN compressed into the file NEW, as save_image_lzo of the kernel
- * does (kernel/power/swap.c): by lzo1x_1_compress, which the kernel takes, or where KIND is 999 by lzo1x_999_compress.
- * bench_lzo page AREA P: reads such an image, expands each unit once by lzo1x_decompress_safe, compares the checksum, and writes the
- * page of page frame P, as `swsusp_image page` does.
- * The input must be in order: nothing else is looked for.
+ * bench_lzo pack PLAIN NEW [KIND]: writes the image of the area PLAIN compressed into the file NEW, as the kernel's
+ * save_image_lzo does (kernel/power/swap.c): by lzo1x_1_compress, as the kernel, or by lzo1x_999_compress if KIND is 999.
+ * bench_lzo page AREA P: reads such an image, expands each unit once by lzo1x_decompress_safe, compares the checksum, and
+ * writes the page of page frame P, as `swsusp_image page` does.
+ * The input must be in order: faults aren't looked for.
  */
 #include <fcntl.h>
 #include <lzo/lzo1x.h>
@@ -66,7 +66,7 @@ static struct chain chain_of(const char *path)
     return c;
 }
 
-/* The pages of the image behind the info page, by the info page. */
+/* Returns the number of pages of the image after the info page, which the info page gives. */
 static uint64_t pages_of(const unsigned char *info)
 {
     uint64_t pages;
@@ -74,7 +74,7 @@ static uint64_t pages_of(const unsigned char *info)
     return pages - 1;
 }
 
-/* crc32_le of the kernel: no inversion before or after. */
+/* The kernel's crc32_le: no inversion before or after. */
 static uint32_t crc_of(uint32_t crc, const unsigned char *bytes, size_t size)
 {
     static uint32_t table[256];
@@ -135,7 +135,7 @@ static void pack(const char *from, const char *to, int best)
         done += now;
     }
     write_block(w.file, w.at, w.map);
-    /* Flag 2 says that an image isn't compressed, flag 4 that there is a checksum. */
+    /* Flag 2 says that an image isn't compressed, flag 4 that it has a checksum. */
     memcpy(&flags, c.header + 4072, 4);
     flags = (flags & ~2u) | 4;
     memcpy(c.header + 4072, &flags, 4);
@@ -147,7 +147,7 @@ static void pack(const char *from, const char *to, int best)
     need(fsync(w.file) == 0, "sync fault");
 }
 
-/* The compressed bytes of the next unit, of which the first page is number `at` of the chain. */
+/* Reads the compressed bytes of the next unit, whose first page is number `at` of the chain. */
 static uint64_t read_unit(const struct chain *c, uint64_t *at, unsigned char *packed)
 {
     uint64_t length;
@@ -159,7 +159,7 @@ static uint64_t read_unit(const struct chain *c, uint64_t *at, unsigned char *pa
     return length;
 }
 
-/* Reads the whole image, and writes the page of a page frame of it: the words of the number pages stand in its first units. */
+/* Reads the whole image, and writes the page of one of its page frames: the words of the number pages are in its first units. */
 static void page(const char *path, uint64_t frame)
 {
     struct chain c = chain_of(path);

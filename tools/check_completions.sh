@@ -1,8 +1,8 @@
 #!/bin/sh
 # check_completions.sh [SWSUSP SWSUSP_MACHINE SWSUSP_IMAGE]: asks bash, zsh and fish to complete, and compares what they offer with the programs' `--help`.
 #
-# The words are the programs; without them those that `rt run` or `rt ci` left. A shell that isn't there is named and left out. Each command, and
-# each option of each command, is to be offered, and no other command or option. The status is 1 where one is missing or too many.
+# The words are the programs, by default those that `rt run` or `rt ci` left. A shell that isn't installed is named and left out. Each command, and
+# each option of each command, must be offered, and no other command or option. The status is 1 if one is missing or too many.
 set -u
 top=$(cd "$(dirname "$0")/.." && pwd)
 room=$(mktemp -d)
@@ -17,11 +17,11 @@ export PATH
 asked=0
 wrong=0
 
-# The commands and the long options that a help text names, a word a line.
+# Print the commands and the long options that a help text names, one word per line.
 commands_of() { "$@" --help 2>&1 | sed -n '/^Commands:/,/^$/s/^  \([a-z_]*\) .*/\1/p' | sort; }
 options_of() { "$@" --help 2>&1 | sed -n '/^Options:/,/^$/s/.*\(--[a-z][a-z-]*\).*/\1/p' | sort; }
 
-# What a shell offers for a line, a word a line: of bash what its function answers.
+# Print what a shell offers for a line, one word per line; for bash, what its completion function returns.
 bash_offers() {
     bash --norc -c '
         source "$1"
@@ -66,7 +66,7 @@ zsh_offers() {
     cat "$room/hits"
 }
 
-# Compares what a shell offers for a line with the words that are to be offered.
+# Compares what a shell offers for a line with the words that must be offered.
 compare() {
     asked=$((asked + 1))
     "$1_offers" "$2" | tr -s ' \r' '\n' | grep -E "$4" | sort -u > "$room/offered"

@@ -1,8 +1,8 @@
 #!/usr/bin/env python3
-"""check_examples.py [SWSUSP]: plays each script of examples/ that docs/COMMANDS.md lists, and compares what is printed with its row there.
+"""check_examples.py [SWSUSP]: plays each script of examples/ that docs/COMMANDS.md lists, and compares what it prints with its row there.
 
-The word is the program; without it that which `rt run` or `rt ci` left. A row is a list: a line, a number of times a line (`four times`), all
-lines from one to another that differ in their first number, or what another script prints up to a line. The status is 1 where one differs.
+SWSUSP is the program, by default the one that `rt run` or `rt ci` left. A row is a list of: a line, a line a number of times (`four times`), all
+lines from one to another that differ in their first number, or what another script prints up to a line. The status is 1 if a script differs.
 """
 import pathlib
 import re
@@ -15,7 +15,7 @@ PART = re.compile(r"as (?P<other>\w+\.txt) up to `(?P<last>[^`]*)`|`(?P<first>[^
 
 
 def between(first, last):
-    """The lines from one to another, which differ in their first number."""
+    """Returns the lines from one to another, which differ in their first number."""
     begin, end = (int(re.search(r"\d+", line)[0]) for line in (first, last))
     lines = [re.sub(r"\d+", str(k), first, count=1) for k in range(begin, end + 1)]
     if lines[-1] != last:
@@ -24,7 +24,7 @@ def between(first, last):
 
 
 def lines_of(row, rows):
-    """The lines that a row stands for."""
+    """Returns the lines that a row stands for."""
     lines = []
     for part in PART.finditer(row):
         if part["other"]:

@@ -1,6 +1,6 @@
 #!/usr/bin/env python3
-"""Compares include/swsusp.h with the sources of crates/swsusp_c: the fields of each struct, by name, type and order, which under `repr(C)`
-give each its offset; the sizes that both say; the constants; and the functions. Prints what differs; status 1 then.
+"""Compares include/swsusp.h with the sources of crates/swsusp_c: the fields of each struct by name, type and order, which under `repr(C)`
+give each field its offset; the sizes that both give; the constants; and the functions. Prints what differs; the status is then 1.
 """
 import os
 import re
@@ -16,12 +16,12 @@ def read(name):
 
 
 def c_name(name):
-    """SwsuspCall as swsusp_call; the ranges are boot_resume's."""
+    """Returns the header's name of a source's type: SwsuspCall becomes swsusp_call; FrameRange is boot_resume's."""
     return "swsusp_range" if name == "FrameRange" else re.sub(r"(?<!^)(?=[A-Z])", "_", name).lower()
 
 
 def c_type(rattle):
-    """The type of an element, and the lengths of the arrays around it, the outermost first."""
+    """Returns the type of an element, and the lengths of the arrays around it, the outermost first."""
     lengths = []
     while rattle.startswith("["):
         rattle, length = re.fullmatch(r"\[(.*); (\w+)\]", rattle).groups()
@@ -45,7 +45,7 @@ def c_structs(text):
 
 
 def written_out(structs, constants):
-    """The structs with the lengths of their arrays as numbers."""
+    """Returns the structs, with the lengths of their arrays as numbers."""
     return {
         name: [(field, kind, [int(constants.get(length, length)) for length in lengths]) for field, kind, lengths in fields]
         for name, fields in structs.items()
@@ -53,7 +53,7 @@ def written_out(structs, constants):
 
 
 def variant_codes(source, kind, prefix, number):
-    """The numbers that the variants of an enum stand for, by their names in the header."""
+    """Returns the numbers that the variants of an enum stand for, by their names in the header."""
     form = r"\b%s::(\w+)(?:\s*\{[^}]*\}|\([^)]*\))? => %s(\d+)" % (kind, number)
     return {prefix + c_name(name).upper(): int(n) for name, n in re.findall(form, source)}
 

@@ -1,9 +1,9 @@
 #!/usr/bin/env python3
-"""Checks docs/PROOFS.md: each file and edit that a table names is there, and each name in a row stands in one of the row's files.
+"""Checks docs/PROOFS.md: each file and edit that a table names exists, and each name in a row is declared in one of the row's files.
 
-A file without a folder of its own is one of the crate that the row has named before it. A name stands there where it is
-declared: a function, a type, a variant, a trait, a clause or a law of a source, or a definition, a field, a constructor or a lemma of
-a specification or proof. Says what it misses, and ends with status 1.
+A file without a folder of its own belongs to the crate that the row named before it. What counts as declared is a function, a type, a variant,
+a trait, a clause or a law of a source, or a definition, a field, a constructor or a lemma of a specification or proof. Prints what is
+missing, and then ends with status 1.
 """
 
 import pathlib
@@ -18,14 +18,14 @@ EDIT = re.compile(r"(\w+)/must-fail/([\w-]+)\.edit")
 
 
 def rows():
-    """The rows of the tables, each its line number and its cells."""
+    """Yields the rows of the tables: for each its line number and its cells."""
     for number, line in enumerate(PAGE.read_text().splitlines(), 1):
         if line.startswith("|") and not line.startswith("|--"):
             yield number, [cell.strip() for cell in line.strip("|\n").split(" | ")]
 
 
 def files_of(cell):
-    """The files that a cell names, and the names of those that are missing."""
+    """Returns the files that a cell names, and the names of those that are missing."""
     found, missing, crate = [], [], None
     for word in PATH.findall(cell):
         tries = [TOP / word]
@@ -44,7 +44,7 @@ def files_of(cell):
 
 
 def declares(text, name):
-    """Whether a line of the text declares the name: in a source or in a specification."""
+    """Returns whether a line of the text declares the name, as a source or a specification does."""
     word = re.escape(name) + r"(?![\w-])"
     source = rf"\b(?:fn|struct|enum|trait|type|const|static|mod|ensures|requires|ghost)\s+{word}"
     variant = rf"^\s+{word}\s*(?:,|\(|\{{|$)"

@@ -1,6 +1,6 @@
 #!/usr/bin/env python3
 """Checks that man/swsusp-replies.7 has a row for each line that the programs print or note: the texts of the replies
-(crates/script/src/phrases.rt) and of the notes of both command lines. Prints those that have none, and ends with status 1 where there
+(crates/script/src/phrases.rt) and of the notes of both command lines. Prints the lines that have none, and ends with status 1 if there
 is one."""
 import pathlib
 import re
@@ -10,7 +10,7 @@ top = pathlib.Path(__file__).resolve().parent.parent
 page = (top / "man/swsusp-replies.7").read_text()
 rows = [row.strip() for line in re.findall(r"^\.It Li (.*)$", page, re.M) for row in line.split(" , ")]
 
-# A text that varies by a word stands in the page once for each word.
+# A text that varies by a word has a row for each word.
 VARIANTS = {
     "read fault ": ["same", "gone"],
     "write fault ": ["same", "gone", "unsure"],
@@ -18,12 +18,12 @@ VARIANTS = {
     "undo ": ["write", "sync"],
 }
 
-# What stands on out, as a row of a list that the manual pages have elsewhere, or a part of a longer line.
+# Texts on standard output, as a row of a list that other manual pages have, or as a part of a longer line.
 ELSEWHERE = {"area last ", "imported ", "same", "hardware", "saveable ", "page ", " need "}
 
 
 def texts(path, calls):
-    """The texts that a file writes by these calls."""
+    """Returns the texts that a file writes by these calls."""
     source = (top / path).read_text()
     source = re.sub(r"^\s*//.*$", "", source, flags=re.M)
     return re.findall(r"(?:%s)[^;\"]*?b\"([^\"]*)\"" % calls, source)
@@ -50,7 +50,7 @@ def main():
         if not text.strip() or text in ELSEWHERE:
             continue
         if text.endswith((" byte ", " frame ")):
-            # A kind of fault of a dump or a stream: its table is in docs/FORMATS.md.
+            # A kind of fault of a dump or a stream: the table of those is in docs/FORMATS.md.
             if f"`{text.split()[0]}`" not in formats and f"| {text.split()[0]} |" not in formats:
                 missing.add(text.strip())
             continue

@@ -1,18 +1,18 @@
 #!/usr/bin/env python3
-"""crash_test.py [SWSUSP [SWSUSP_MACHINE [SEED]]]: ends, fails and interrupts each system call of a hibernation, an import and a resume.
+"""crash_test.py [SWSUSP [SWSUSP_MACHINE [SEED]]]: kills, fails and interrupts each system call of a hibernation, an import and a resume.
 
-The calls are seen, ended and failed by strace, so any build is tried as it is. Of each command it shows:
+strace watches, kills and fails the calls, so any build is tried as it is. For each command it shows:
 - the order of the calls: the lock, a sync, the first block read, written back and synced, the pages and maps, a sync, the header block read
   and written, a sync;
 - killed at any call, it leaves no image or a whole one, `swsusp_machine check` and `swsusp resume` agree on which, and an image is resumed once;
-- with any call failing, status and note tell of that call, and `same` and `gone` are kept;
-- with each read and write interrupted once, it does what it does without;
-- a power cut at any place, which leaves any of the writes that aren't synced, whole ones or some of their sectors, leaves no image or a
-  whole one. The states are made from the log of the writes that the command makes: all where there are few, by SEED (1) else.
-What a whole image is comes from docs/FORMATS.md: its chain is read here, and has just the page frames of the dump that aren't free.
+- with any call failing, status and note report that call, and `same` and `gone` are kept;
+- with each read and write interrupted once, it does what it does without interruptions;
+- a power cut at any point, which leaves any of the unsynced writes, as a whole or some of their sectors, leaves no image or a whole one. The
+  states are made from the log of the command's writes: all of them if they are few, else some that SEED (1) chooses.
+What a whole image is comes from docs/FORMATS.md: its chain is read here, and has exactly the page frames of the dump that aren't free.
 
-The programs are those that `rt run` leaves, without the words. Prints a line for each check, then `N passed, M failed`, and ends with
-status 1 where one differs; skips, with status 0, where strace isn't there or may not trace.
+The programs are those that `rt run` leaves unless words name others. Prints a line for each check, then `N passed, M failed`, and ends with
+status 1 if a check differs. It is skipped, with status 0, if strace isn't installed or may not trace.
 """
 import concurrent.futures
 import hashlib
@@ -33,15 +33,15 @@ PAGE, SECTOR = 4096, 512
 MARK = b"S1SUSPEND\0"
 FREE = 1
 LAST = 1599
-# Calls whose first word is a descriptor.
+# Calls whose first argument is a descriptor.
 ON_FILES = {"read", "write", "pread64", "pwrite64", "lseek", "fsync", "fdatasync", "flock", "statx", "fstat", "newfstatat", "ioctl", "close"}
 LOOKS = {"statx", "fstat", "newfstatat", "ioctl"}
-# The name of standard output by which a program can open it once more.
+# The name by which a program can open its standard output once more.
 OUTPUT = b"/proc/self/fd/1"
 
 
 class Bench:
-    """The programs, a folder for their files, and the checks so far."""
+    """The programs, a folder for their files, and the results so far."""
 
     def __init__(self, program, machine, room):
         self.program, self.machine, self.room = program, machine, room
@@ -58,7 +58,7 @@ class Bench:
             self.failed += 1
 
     def run(self, words, given, area=None, under=()):
-        """Status, output, note and the area's bytes after a run of a program over this area, whose file stands after its words."""
+        """Runs a program over this area, whose file comes after its words. Returns its status, output, note, the area's bytes, and the trace."""
         folder = self.room / str(next(self.folders))
         folder.mkdir()
         (folder / "input").write_bytes(given)
@@ -79,14 +79,14 @@ class Bench:
         return self.run(words, given, area, ["strace", "-qq", "-o", "FOLDER/log", "-xx", "-s", "70000"])
 
     def injected(self, words, given, area, call, what):
-        """A run in which something happens at a call; `when` counts the calls of its name."""
+        """Runs a program and makes something happen at a call; `when` counts the calls of that name."""
         name = call.name
         return self.run(words, given, area, ["strace", "-qq", "-o", "FOLDER/ended", "-e", f"trace={name}",
                                              "-e", f"inject={name}:{what}:when={call.nth}"])
 
 
 class Call:
-    """A system call: its name, the how manyth of that name it is, its words, what it gives, and on which file it works."""
+    """A system call: its name, its place among the calls of that name, its arguments, its result, and the file that it works on."""
 
     def __init__(self, name, nth, words, result):
         self.name, self.nth, self.words, self.result = name, nth, words, result
@@ -101,7 +101,7 @@ TEXT = re.compile(r'"((?:\\x[0-9a-f]{2})*)"')
 
 
 class Trace:
-    """The calls of a run in order; those from the area's first mention on are `own`, those on the open area `on_area`."""
+    """The calls of a run in order; `own` has those from the first mention of the area on, `on_area` those on the open area."""
 
     def __init__(self, log, area):
         self.calls, counts, files, places = [], {}, {0: "input", 1: "output", 2: "note"}, {}
@@ -141,7 +141,7 @@ class Trace:
 
     @staticmethod
     def place(call, fd, places):
-        """Where on the area a read or write is."""
+        """Notes where on the area a call reads or writes."""
         if call.name in ("pread64", "pwrite64"):
             call.at = int(call.words.rsplit(", ", 1)[1])
         elif call.name in ("read", "write"):
@@ -170,7 +170,7 @@ def number(page, at, size=8):
 
 
 def machine_of(dump):
-    """The page frames of a dump that aren't free, with their bytes."""
+    """Returns the page frames of a dump that aren't free, with their bytes."""
     zones = number(dump, 28, 4)
     at = 424 + 8 * zones
     frames = max(sum(struct.unpack_from("<2I", dump, 424 + 8 * i)) for i in range(zones))
@@ -185,7 +185,7 @@ def machine_of(dump):
 
 
 def image_of(area):
-    """What the area holds: `none`, the page frames of its image, or what is wrong with that."""
+    """Returns what the area holds: `none`, the page frames of its image, or what is wrong with the image."""
     def block(b):
         return area[b * PAGE : (b + 1) * PAGE]
 
@@ -208,14 +208,14 @@ def image_of(area):
 
 
 class Command:
-    """A command that is tried: its words, its input, and the area before it."""
+    """A command to try: its words, its input, and the area before it."""
 
     def __init__(self, name, words, given, before, answer):
         self.name, self.words, self.given, self.before, self.answer = name, words, given, before, answer
 
 
 def verdict(machine, area):
-    """`none`, `whole`, or what is torn."""
+    """Returns `none`, `whole`, or what is torn."""
     image = image_of(area)
     if image == "none":
         return "none"
@@ -223,7 +223,7 @@ def verdict(machine, area):
 
 
 def agree(bench, machine, loader, area):
-    """Whether check and resume say of an area what is there: an empty text, or what differs. An image is resumed just once."""
+    """Returns an empty text if check and resume say what the area holds, and an image is resumed exactly once; else what differs."""
     key = hashlib.sha256(area).digest()
     if key in bench.agreed:
         return bench.agreed[key]
@@ -248,7 +248,7 @@ def agree(bench, machine, loader, area):
 
 
 def machine_bytes(dump, p):
-    """Page frame p of a dump, whichever it is in there."""
+    """Returns page frame p of a dump, wherever its record is."""
     at = 424 + 8 * number(dump, 28, 4)
     for i in range(number(dump, at, 4)):
         record = at + 4 + 4100 * i
@@ -258,7 +258,7 @@ def machine_bytes(dump, p):
 
 
 def order(bench, command, trace):
-    """The order of the calls on the area."""
+    """Checks the order of the calls on the area."""
     name, calls = command.name, [it for it in trace.on_area if it.name != "lseek"]
     moved = [it for it in calls if is_read(it) or is_write(it) or is_sync(it)]
     locks = [it for it in calls if it.name == "flock"]
@@ -275,7 +275,7 @@ def order(bench, command, trace):
         first = next(i for i in writes if moved[i].at >= PAGE)
         bench.same(f"{name}: before the first page a sync of all that was there, beside that of the header block", True,
                    len([i for i in syncs if i < first]) >= 2)
-    # The first block that is read is written back as it was read, and synced, before any other call.
+    # The first block that is read is written back as it was, and synced, before any other call.
     back, read = moved[writes[0]], moved[reads[0]]
     bench.same(f"{name}: what is read first is written back", (0, True), (back.at, back.at == read.at and back.data == read.data))
     follows = moved[writes[0] + 1] if writes[0] + 1 < len(moved) else None
@@ -294,12 +294,12 @@ def order(bench, command, trace):
         bench.same(f"{name}: pages and maps are written before", True, bool(pages) and max(pages) < mark)
         later = [("s" if is_sync(it) else "r" if is_read(it) else "w") + ("0" if it.at == 0 else "") for it in rest[max(pages) + 1 :]]
         bench.same(f"{name}: after them a sync, the header block read and written, a sync", "s r0 w0 s", " ".join(later))
-    # All that is new in the header block lies in its last sector.
+    # All that is new in the header block is in its last sector.
     bench.same(f"{name}: the header block's first seven sectors stay", command.before[: 7 * SECTOR], rest[mark].data[: 7 * SECTOR])
 
 
 def killed(bench, command, machine, loader, trace):
-    """A kill at each call from the area's first mention on."""
+    """Kills the command at each call from the area's first mention on."""
     def one(call):
         status, out, _, after, _ = bench.injected(command.words, command.given, command.before, call, "signal=KILL")
         return call, status, out, after
@@ -325,12 +325,12 @@ def killed(bench, command, machine, loader, trace):
                     wrong.append(f"{call}: {note}")
     bench.same(f"{command.name}: killed at each of {len(trace.own)} calls, {left}", "", "; ".join(wrong[:5]))
     bench.same(f"{command.name}: before and after the header's write", {"none", "whole"}, set(left))
-    # A call that isn't reached (the loader or a sanitizer maps memory as it likes) says nothing, but most are.
+    # A call that isn't reached shows nothing (the loader or a sanitizer maps memory as it likes), but most calls are reached.
     bench.same(f"{command.name}: nearly all were reached", True, missed * 10 <= len(trace.own))
 
 
 def failed(bench, command, machine, loader, trace):
-    """A failure of each call that works on a file."""
+    """Fails each call that works on a file."""
     calls = [it for it in trace.own if it.on and it.name != "close"]
     calls += [it for it in trace.own if it.on is None and it.name in ("openat", "statx")]
     first_read = next(it for it in trace.on_area if is_read(it))
@@ -342,7 +342,7 @@ def failed(bench, command, machine, loader, trace):
         if call.on == "input":
             return 4, "source fault"
         if call.on == "output":
-            # Before the area is opened the output is looked at, since it may not be the area.
+            # The output is looked at before the area is opened, since it may not be the area.
             early = call.name in LOOKS and trace.own.index(call) < trace.own.index(trace.on_area[0])
             return (7, "open fault") if early else (4, "sink fault")
         if call.on in ("path", None) or call.name in LOOKS or call.name == "flock" or "SEEK_END" in call.words:
@@ -363,7 +363,7 @@ def failed(bench, command, machine, loader, trace):
         for call, (status, _, note, after, _) in pool.map(one, calls):
             note = note.decode("latin-1").strip()
             code, shape = wanted(call)
-            # What is only looked at (other files of the system, whether the output is a terminal) needn't be there.
+            # Files that are only looked at (other files of the system, whether the output is a terminal) needn't be there.
             if status == 0 and (call.on is None or call.on == "output" and call.name in LOOKS):
                 continue
             if status != code or not re.fullmatch(shape, note):
@@ -385,7 +385,7 @@ def failed(bench, command, machine, loader, trace):
 
 
 def interrupted(bench, command, trace, whole):
-    """Each read and each write from the area's first mention on is interrupted once; what comes is what comes without."""
+    """Interrupts each read and each write once, from the area's first mention on; the outcome is as without interruptions."""
     under = ["strace", "-qq", "-o", "FOLDER/ended"]
     names = sorted({it.name for it in trace.own if it.name in ("read", "write", "pread64", "pwrite64")})
     for name in names:
@@ -397,8 +397,8 @@ def interrupted(bench, command, trace, whole):
 
 
 def cuts(before, calls, dice, few=256, many=48):
-    """The states that a power cut may leave, at each place between the calls: those writes that are synced, and any of the others, or
-    some of their sectors."""
+    """Yields the states that a power cut may leave, at each point between the calls: the synced writes, and any of the others, or some of
+    their sectors."""
     synced, waiting = bytearray(before), []
     for call in [None, *calls]:
         if call is not None and is_sync(call):
@@ -440,7 +440,7 @@ def power_cuts(bench, command, machine, loader, trace, dice):
     picked = dice.sample(samples, min(6, len(samples)))
     notes = [agree(bench, machine, loader, it) for it in picked]
     bench.same(f"{command.name}: check and resume say so of {len(picked)} of them", "", "; ".join(filter(None, notes)))
-    # Without the sync before the header's write there are torn images, or this test finds none.
+    # Without the sync before the header's write there are torn images; else this test would find none at all.
     if not command.name.startswith("resume"):
         mark = max(i for i, it in enumerate(calls) if is_write(it) and it.at < PAGE)
         last = max(i for i in range(mark) if is_sync(calls[i]))
@@ -450,7 +450,7 @@ def power_cuts(bench, command, machine, loader, trace, dice):
 
 
 def outputs(bench, command, trace, given):
-    """Output that is a regular file is synced after its last write; where that fails the status is 4."""
+    """Output that is a regular file is synced after its last write; if that sync fails, the status is 4."""
     synced = [i for i, it in enumerate(trace.own if given is not None else trace.calls) if is_sync(it) and it.on == "output"]
     written = [i for i, it in enumerate(trace.own if given is not None else trace.calls) if is_write(it) and it.on == "output"]
     bench.same(f"{command.name}: the output is synced once, after its last write", (1, True),
@@ -458,7 +458,7 @@ def outputs(bench, command, trace, given):
 
 
 def lockless(bench, command, trace, whole):
-    """Where the file's system has no locks, a command does what it does with one."""
+    """On a file system without locks, a command does what it does on one with them."""
     locks = [it for it in trace.on_area if it.name == "flock"]
     for error in ("ENOLCK", "EOPNOTSUPP") if locks else ():
         result = bench.injected(command.words, command.given, command.before, locks[0], f"error={error}")
@@ -492,7 +492,7 @@ def main(program=TOP / "crates/swsusp/out/swsusp", machine=TOP / "crates/swsusp_
         print("skipped: no strace that may trace")
         return 0
     room = pathlib.Path(tempfile.mkdtemp(prefix="swsusp-crash-"))
-    # A signal ends it by an exception, so the folder is removed.
+    # A signal ends the script by an exception, so the folder is removed.
     for number_of in (signal.SIGTERM, signal.SIGHUP):
         signal.signal(number_of, lambda *_: sys.exit(1))
     try:
@@ -533,7 +533,7 @@ def tried(bench, dice):
         failed(bench, command, machine, loader, trace)
         lockless(bench, command, trace, whole)
     foreign(bench, loader, saved, stream)
-    # An export has no area; its output is a regular file here.
+    # An export has no area; here its output is a regular file.
     export = Command("export", [bench.program, "export"], saved, None, None)
     status, out, note, _, trace = bench.traced(export.words, export.given)
     bench.same("export, traced", (0, stream, b""), (status, out, note))

@@ -21,9 +21,9 @@ OWNER = re.compile(r"^(?:pub )?(?:unsafe )?(?:impl\b|trait\b)(?P<head>.*)")
 CLAUSE = re.compile(r"^\s*(?P<kind>requires|ensures)\*?\s*(?P<name>\w*)\s*\{")
 DEFINITION = re.compile(r"^(?:(?:abbrev|unfoldable|opaque|pub|record|data) )+(?P<name>[^\s:(){}]+)|^(?P<plain>\w+) : ")
 WORD = re.compile(r"[A-Za-z_]\w*")
-# A name or a file that more promises have tells nothing of one of them.
+# A name or a file that more promises than this have says nothing about any one of them.
 MOST_ROWS = 8
-# A definition's name that is no plain word, as a clause's or a field's may be.
+# The name of a definition that isn't a plain word, as a clause's or a field's may be.
 TELLING = re.compile(r"^[A-Z]\w*[a-z]|_")
 PATH = re.compile(r"[\w/]+(?:\.antt|\.rt)|crates/\w+(?:/\w+)*")
 NAMED = re.compile(r"`([^`]+)`")
@@ -41,20 +41,20 @@ class Item:
 
 
 def owner_of(head):
-    """The type that an `impl` block is for, or the trait."""
+    """Returns the type that an `impl` block is for, or the trait."""
     head = re.sub(r"<[^<>]*(?:<[^<>]*>[^<>]*)*>", "", head.split("{")[0]).split(" where ")[0]
     found = WORD.findall(head.split(" for ")[-1])
     return found[-1] if found else ""
 
 
 def trait_of(head):
-    """The trait that an `impl` block is of, where it is of one."""
+    """Returns the trait that an `impl` block implements, if it implements one."""
     found = re.match(r"(?:<.*?>)?\s*(\w+).* for ", head.split("{")[0])
     return found[1] if found else ""
 
 
 def items_of_source(text):
-    """The items of a .rt file, each with the clauses of its contract and the words of its body."""
+    """Returns the items of a .rt file, each with the clauses of its contract and the words of its body."""
     items, owner, trait, open_braces = [], "", "", 0
     for number, line in enumerate(text.splitlines()):
         bare = line.split("//")[0]
@@ -72,7 +72,7 @@ def items_of_source(text):
         clause = CLAUSE.match(bare)
         if clause and clause["kind"] == "ensures":
             items[-1].clauses.append(clause["name"])
-        # A clause may go on over lines, up to its last brace.
+        # A clause may continue over lines, up to its last brace.
         if clause or open_braces:
             items[-1].words |= set(WORD.findall(bare))
             open_braces += bare.count("{") - bare.count("}")
@@ -82,7 +82,7 @@ def items_of_source(text):
 
 
 def items_of_spec(text):
-    """The definitions of an .antt file."""
+    """Returns the definitions of an .antt file."""
     items = []
     for number, line in enumerate(text.splitlines()):
         found = DEFINITION.match(line)
@@ -94,7 +94,7 @@ def items_of_spec(text):
 
 
 def item_at(items, number):
-    """The item that a line lies in."""
+    """Returns the item that a line lies in."""
     before = [item for item in items if item.begin <= number]
     return before[-1] if before else Item("the head of the file", kind="head")
 
@@ -112,7 +112,7 @@ class Crate:
         self.sources = [item for path, items in self.files.items() if path.suffix == ".rt" for item in items]
 
     def reached_from(self, item):
-        """The item, and the functions of the crate that call it, up to its public ones."""
+        """Returns the item, and the functions of the crate that call it, up to its public ones."""
         found, level = [item], [item]
         while level:
             names = {each.name for each in level if each.kind in ("fn", "const", "static")}
@@ -122,7 +122,7 @@ class Crate:
         return found
 
     def contracts_of(self, item):
-        """The item where it has a contract, else the nearest functions that call it or use it and have one."""
+        """Returns the item if it has a contract, else the nearest functions with a contract that call it or use it."""
         seen, level = {item}, [item]
         while level and not any(each.clauses for each in level):
             names = {each.name for each in level}
@@ -146,7 +146,7 @@ class Edit:
         self.item = item_at(crate.files[self.file], text.count("\n", 0, at + len(self.old) - len(line)))
 
     def cited(self, definitions):
-        """The definitions that the contract around it cites, and those of this crate's that these cite."""
+        """Returns the definitions that the contract around the edit cites, and those of this crate that these cite."""
         found = set().union(*(item.words for item in self.crate.contracts_of(self.item))) & definitions.keys()
         return found.union(*(definitions[name].words for name in found if definitions[name].crate == self.crate.name))
 
@@ -157,7 +157,7 @@ class Edit:
         return f"`{self.item.title()}` ({self.file.relative_to(self.crate.folder)})"
 
     def clauses(self):
-        """The clauses of the contract that the edit lies in, or of the nearest callers' that have one."""
+        """Returns the clauses of the contract that the edit lies in, or of the nearest callers that have one."""
         if self.item.kind == "definition":
             return "the laws of this definition" if "specs" in self.file.parts else "the statements that cite this lemma"
         found = self.crate.contracts_of(self.item)
@@ -169,13 +169,13 @@ class Edit:
 
 
 def clauses_of(item):
-    """The names of the clauses of a contract."""
+    """Returns the names of the clauses of a contract."""
     named = [f"`{name}`" for name in item.clauses if name]
     return ", ".join(named) or "its one clause"
 
 
 def rows(title):
-    """The rows of the first table of a section, each its cells."""
+    """Yields the rows of the first table of a section, each as its cells."""
     inside = False
     for line in PROMISES.read_text().splitlines():
         if line.startswith("## "):
@@ -185,19 +185,19 @@ def rows(title):
 
 
 def short(promise):
-    """The first sentence of a promise, or its bold words."""
+    """Returns the first sentence of a promise, or its bold words."""
     bold = re.match(r"\*\*(.+?)\*\*", promise)
     words = bold[1] if bold else re.split(r"(?<=[.:])\s", promise)[0]
     return words.rstrip(".:") + "."
 
 
 def names_of(cell):
-    """The names of a cell: functions with their type, definitions, and clauses."""
+    """Returns the names of a cell: functions with their type, definitions, and clauses."""
     return set(NAMED.findall(cell))
 
 
 def wrong_bodies():
-    """By the edit, as CRATE/NAME, the definitions that the table of wrong bodies has beside it."""
+    """Returns for each edit, as CRATE/NAME, the definitions that the table of wrong bodies has beside it."""
     found, last = {}, set()
     for cells in rows("Which definition refuses which wrong body"):
         last = last if cells[1].startswith("the same") else names_of(cells[1])
@@ -207,7 +207,7 @@ def wrong_bodies():
 
 
 def files_of(cell):
-    """The crates' files that a cell names, and the crates; a file without a folder is of the crate named last, or of plain_machine's specs."""
+    """Returns the files and the crates that a cell names; a file without a folder belongs to the crate named last, or to plain_machine's specs."""
     files, crates, last = set(), set(), None
     for word in PATH.findall(cell):
         parts = word.removeprefix("crates/").split("/")
@@ -223,7 +223,7 @@ def files_of(cell):
 
 
 class Promise:
-    """A row of the table of all promises, with the names and files of its own: those that few other rows have."""
+    """A row of the table of all promises, with its own names and files: those that few other rows have."""
 
     def __init__(self, cells):
         self.title = short(cells[0])

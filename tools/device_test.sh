@@ -1,9 +1,9 @@
 #!/bin/sh
-# Tries the disk in a file over block devices: a loop device that nobody uses is read and written; one that the kernel swaps to,
+# Tries the disk in a file over block devices. A loop device that nobody uses is read and written. A device that the kernel swaps to,
 # one whose file system is mounted, the disk of a mounted partition and one that the device mapper holds are refused for
-# writing, and opened for reading. Then the built program (the first word, or crates/swsusp/out/swsusp, where there is one)
+# writing, and opened for reading. Then the built program (the first word, or crates/swsusp/out/swsusp, if there is one)
 # reads a device, refuses a swap file that the kernel swaps to, and finds that what the kernel remembers of a device isn't what the
-# device has. Prints a line for each check, and ends with status 1 where one differs; skips, with status 0, without root or
+# device has. Prints a line for each check, and ends with status 1 if one differs. It is skipped, with status 0, without root or
 # loop devices.
 set -u
 top=$(cd "$(dirname "$0")/.." && pwd)
@@ -16,7 +16,7 @@ skip() {
     exit 0
 }
 
-# Takes back what was set up, the last thing first. A signal that comes meanwhile, as when nobody reads the output, doesn't end it.
+# Undoes what was set up, the last thing first. A signal that comes meanwhile, as when nobody reads the output, doesn't end it.
 clean() {
     trap '' PIPE HUP INT TERM
     exec 8>&-
@@ -31,7 +31,7 @@ clean() {
     rm -rf "$room"
 }
 
-# A loop device over a new file of so many blocks of 4096 bytes.
+# Sets up a loop device over a new file $1 of $2 blocks of 4096 bytes.
 loop() {
     dd if=/dev/zero of="$room/$1" bs=4096 count="$2" 2>/dev/null && losetup -P -f --show "$room/$1" 2>/dev/null
 }
@@ -89,7 +89,7 @@ if [ ! -x "$program" ]; then
     exit $status
 fi
 
-# What is tried, what it is to be, and what came.
+# The arguments are what is tried, the expected result, and the actual one.
 same() {
     if [ "$2" = "$3" ]; then
         echo "as told: $1"
@@ -99,7 +99,7 @@ same() {
     fi
 }
 
-# Status, output and note of a run.
+# Prints status, output and note of a run.
 told() {
     ended=0
     timeout 300 "$program" "$@" >"$room/out" 2>"$room/note" || ended=$?
@@ -130,7 +130,7 @@ if mountpoint -q "$room/at" && dd if=/dev/zero of="$file" bs=4096 count=64 2>/de
     same "hibernate onto a link to it" "7||open fault" "$(told hibernate "$room/at/link" <"$room/saved")"
     same "its header block" "$before" "$(head -c 4096 "$file" | cksum)"
     swapoff "$file"
-    # A header of 64 slots isn't that of the dump's machine, but the file is free.
+    # A header of 64 slots doesn't fit the dump's machine, but the file isn't in use.
     same "the file, when it isn't in use" "1||no swap: misfit 63 slots 1600" "$(told hibernate "$file" <"$room/saved")"
     rm -f "$room/at/name two" "$room/at/link"
 else
@@ -138,8 +138,8 @@ else
     echo "left out: a swap file that the kernel swaps to (swapon isn't allowed)"
 fi
 
-# The kernel keeps what it read of a device that somebody holds open. Where it keeps a header block without an image and the device has
-# one with an image, as after a sync of a resume that failed, a resume that finds no image brings that to the device.
+# The kernel keeps what it read of a device that somebody holds open. After a resume's sync has failed, it may keep a header block without an
+# image while the device has one with an image. Then a resume that finds no image writes the kept block to the device.
 same "a hibernation onto the device" "0|hibernated 5|" "$(told hibernate "$free" <"$room/saved")"
 cp "$room/free" "$room/image"
 timeout 300 "$program" resume "$free" <"$room/loader" >"$room/out" 2>"$room/note" || status=1

@@ -1,7 +1,7 @@
 #!/usr/bin/env python3
 """Draws docs/image.svg, docs/machine.svg and docs/crates.svg.
 
-The layout of an image is drawn for an area whose slots lie on the blocks of their numbers; the floors are read from the first table of
+The layout of an image is that of an area whose slots lie on the blocks of their numbers. The floors are read from the first table of
 docs/ARCHITECTURE.md.
 """
 
@@ -66,7 +66,7 @@ def write(name, width, height, parts):
 
 
 def image():
-    """An image of 509 page frames and more, whose first map is full."""
+    """Draws an image of more than 509 page frames, whose first map is full."""
     blocks = [
         ("header", ["block 0", "header"]),
         ("map", ["block 1", "map 1"]),
@@ -108,7 +108,7 @@ def image():
 
 
 def machine():
-    """States of the machine, its operations, and where a power cut leads."""
+    """Draws the states of the machine, its operations, and where a power cut leads."""
     parts = [text(20, 28, "States and operations of the machine", "title")]
     parts.append(text(20, 48, "Lines are events and last steps; dashed ones are power cuts, after which what was held on the disk is held.", "small"))
     places = {
@@ -168,7 +168,7 @@ def machine():
 
 
 def floors():
-    """The floors of docs/ARCHITECTURE.md and their crates, from the lowest up."""
+    """Returns the floors of docs/ARCHITECTURE.md and their crates, from the lowest up."""
     found = []
     for row in (DOCS / "ARCHITECTURE.md").read_text().splitlines():
         cells = [cell.strip() for cell in row.strip("|").split("|")]
@@ -180,7 +180,7 @@ def floors():
 
 
 def lines_of(names, width):
-    """The boxes of a floor by their lines, each with its place from the left and its width."""
+    """Returns the boxes of a floor line by line, each with its place from the left and its width."""
     lines, x = [[]], 0
     for crate in names:
         size = 7.2 * len(crate) + 18

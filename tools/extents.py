@@ -2,8 +2,8 @@
 """extents.py [--dump] [--text FILE] SWAPFILE: tells where a swap file lies on the device of its file system.
 
 A swap file's image is read by the kernel from the device, by the device's blocks. So it is written there, while the file system isn't
-mounted: the dump must name the blocks (version 2, docs/FORMATS.md), and SWAP is the device. What filefrag(8) tells of the file's extents is
-printed as lines of a script (for `swsusp_machine make` or `swsusp replay`), with what else is needed in comments:
+mounted: the dump must name the blocks (version 2, docs/FORMATS.md), and SWAP is the device. What filefrag(8) prints of the file's extents
+becomes lines of a script (for `swsusp_machine make` or `swsusp replay`), with what else is needed in comments:
 
     # device /dev/sda2
     # swsusp inspect --offset 34816 /dev/sda2
@@ -14,11 +14,11 @@ printed as lines of a script (for `swsusp_machine make` or `swsusp replay`), wit
 
 With --dump it reads a memory dump from standard input, of a machine with as many slots as the file has pages, and writes it as
 version 2 with these extents. With --text the output of `filefrag -v SWAPFILE` is read from FILE (- is standard input) instead, and
-SWAPFILE needn't be there; then the device isn't named.
+SWAPFILE needn't exist; then the device isn't named.
 
-Refused, with a sentence and status 1: holes and what isn't on the disk yet (sync it, or write the file by dd and not by truncate); extents
-that are shared, encoded or inside metadata; ones that aren't of whole pages; more than 64 of them; a file system whose extents aren't
-blocks of the device (btrfs); a page that lies beyond 2^32 blocks; fewer than two pages, or more than 131,072.
+Refused, with a sentence and status 1, are: holes, and data that isn't on the disk yet (sync it, or write the file by dd and not by truncate);
+extents that are shared, encoded or inside metadata; extents that aren't of whole pages; more than 64 extents; a file system whose extents
+aren't blocks of the device (btrfs); a page that lies beyond 2^32 blocks; fewer than two pages, or more than 131,072.
 """
 import os
 import pathlib
@@ -30,7 +30,7 @@ import sys
 PAGE = 4096
 MOST_EXTENTS, MOST_SLOTS = 64, 131072
 BTRFS = "9123683e"
-# Flags of filefrag that say that the bytes aren't, or not only, where it says.
+# Flags of filefrag that say that the bytes aren't, or not only, in the blocks that it names.
 UNFIT = {"unknown_loc", "delalloc", "encoded", "data_encrypted", "not_aligned", "inline", "tail_packed", "shared", "encrypted", "unknown"}
 
 
@@ -39,7 +39,7 @@ class Refused(Exception):
 
 
 def extents_of(text):
-    """The extents that a text of `filefrag -v` tells, in pages: first page of the file, how many, first page of the device."""
+    """Returns the extents in a text of `filefrag -v`, in pages: first page of the file, number of pages, first page of the device."""
     kind = re.search(r"^Filesystem type is: (\w+)", text, re.M)
     if kind and kind.group(1) == BTRFS:
         raise Refused("the extents of btrfs aren't blocks of a device (btrfs inspect-internal map-swapfile tells its resume offset)")
@@ -69,7 +69,7 @@ def extents_of(text):
         if block * unit % PAGE or first * unit % PAGE:
             raise Refused(f"the extent from block {first} on isn't of whole pages")
         slot, start = first * unit // PAGE, block * unit // PAGE
-        # The file ends before an extent that the file system made longer.
+        # The file ends before the end of an extent that the file system made longer.
         size = min(count * unit, length - first * unit)
         if size <= 0:
             break
@@ -89,7 +89,7 @@ def extents_of(text):
 
 
 def device_of(path):
-    """The path of the device that the file's file system lies on."""
+    """Returns the path of the device that the file's file system lies on."""
     number = os.stat(path).st_dev
     name = pathlib.Path(f"/sys/dev/block/{os.major(number)}:{os.minor(number)}")
     if not name.exists():
@@ -98,7 +98,7 @@ def device_of(path):
 
 
 def with_extents(dump, extents):
-    """A dump as version 2 with these extents in the place of its own."""
+    """Returns a dump as version 2, with these extents in the place of its own."""
     if dump[:8] not in (b"SWSUDMP1", b"SWSUDMP2") or len(dump) < 424:
         raise Refused("standard input is no dump")
     slots, zones = struct.unpack_from("<I", dump, 12)[0], struct.unpack_from("<I", dump, 28)[0]

@@ -1,9 +1,9 @@
 #!/bin/sh
 # Tries tools/extents.py: on texts of filefrag that are written here, and then, as root, on a swap file that lies in pieces in an ext4 file
-# system, in an image file of a device. The machine hibernates into the file's blocks through the device while nothing is mounted;
-# it is looked into and resumed from there; the file system is clean afterwards, and no block outside of the swap file has changed. The
-# words are the program, or crates/swsusp/out/swsusp, which `rt run` leaves. Prints a line for each check, and ends with status 1 where one
-# differs; what needs root, a loop device or a tool that isn't there is left out, with a sentence.
+# system, in an image file of a device. The machine hibernates into the file's blocks through the device while nothing is mounted, and is
+# inspected and resumed from there. Afterwards the file system is clean, and no block outside the swap file has changed. The word is the
+# program, by default crates/swsusp/out/swsusp, which `rt run` leaves. Prints a line for each check, and ends with status 1 if one
+# differs. What needs root, a loop device or a tool that isn't installed is left out, with a sentence.
 set -u
 top=$(cd "$(dirname "$0")/.." && pwd)
 program=${1:-$top/crates/swsusp/out/swsusp}
@@ -41,14 +41,14 @@ ended() {
     exit
 }
 
-# What extents.py tells of a text of filefrag: its lines that are no comments, or its sentence, and its status.
+# Prints what extents.py says of a text of filefrag: the lines that are no comments, or its sentence, and its status.
 told() {
     status=0
     python3 "$top/tools/extents.py" --text - swapfile >"$room/out" 2>"$room/note" || status=$?
     echo "$status|$(grep -v '^#' "$room/out" | tr '\n' ';')|$(cat "$room/note")"
 }
 
-# A text of filefrag: the kind of the file system, the file's size, the size of its blocks, and its lines.
+# Prints a text of filefrag. The arguments are the kind of the file system, the file's size and the size of its blocks; the input has its lines.
 text() {
     printf 'Filesystem type is: %s\nFile size of swapfile is %s (%s blocks of %s bytes)\n' "$1" "$2" $((($2 + $3 - 1) / $3)) "$3"
     echo " ext:     logical_offset:        physical_offset: length:   expected: flags:"
@@ -105,7 +105,7 @@ same "a file of one page" "1||swapfile: the file has 1 pages, and an area has 2 
    0:        0..       0:         12..        12:      1:             last,eof
 END
 )"
-# 65 extents, and 64.
+# $1 extents, of one block each: 65, and 64.
 lines() {
     awk -v n="$1" 'BEGIN { for (i = 0; i < n; i++) printf "%4d: %8d..%8d: %10d..%10d: %6d: %10d:\n", i, i, i, 10 + 2 * i, 10 + 2 * i, 1, 0 }'
 }
@@ -114,7 +114,7 @@ same "65 extents" "1||swapfile: the file has 65 extents, and a dump at most 64: 
 same "64 extents" "0|area 63;extent 0 1 10;" "$(lines 64 | text ef53 $((64 * 4096)) 4096 | told | cut -d ';' -f 1,2);"
 same "no text of filefrag" "1||swapfile: this is no output of filefrag -v" "$(echo hello | told)"
 
-# A real one: 64 MiB that are full of files of 48 blocks, of which every second one is removed before the swap file is made.
+# A real swap file: 64 MiB are filled with files of 48 blocks, and every second one is removed before the swap file is made.
 left_out() {
     echo "left out: a swap file in a file system ($1)"
     ended
@@ -158,13 +158,13 @@ cp "$room/at/swap" "$room/swap"
 umount "$room/at"
 cp "$device" "$room/before"
 
-# The swap file as it is read through the file system, which is mounted for reading alone.
+# Copies the swap file through the file system, which is mounted read-only.
 through() {
     mount -o loop,ro,noload "$device" "$room/at" && cp "$room/at/swap" "$room/now"
     umount "$room/at"
 }
 
-# The blocks of the device that have changed, and lie outside of the extents that were told.
+# Counts the blocks of the device that have changed; then prints those of them outside the extents.
 outside() {
     cmp -l "$room/before" "$device" | awk '{ print int(($1 - 1) / 4096) }' | uniq | sort -nu | awk '
         BEGIN { n = 0 }
@@ -173,7 +173,7 @@ outside() {
         END { print changed + 0 "|" others }' "$room/told" -
 }
 
-# How many of the extents have a block that has changed.
+# Counts the extents that have a block that has changed.
 changed_extents() {
     cmp -l "$room/before" "$device" | awk '{ print int(($1 - 1) / 4096) }' | uniq | sort -nu | awk '
         BEGIN { n = 0 }
@@ -192,7 +192,7 @@ same "the header by its block" "0|area last 1599 bad 0 image none|" "$(run inspe
 same "a hibernation through the device" "0|hibernated 566|" "$(run hibernate "$device" <"$room/saved")"
 # The image's first map is slot 1, and the dump's first extent has more slots than that.
 same "its image" "0|area last 1599 bad 0 image $((offset + 1)) flags 2 hw -|" "$(run inspect --offset "$offset" "$device")"
-# The header block, two maps, the info page, two number pages, and 566 pages, of which one is as the zeros before.
+# The header block, two maps, the info page, two number pages, and 566 pages, one of which is zeros as before.
 same "the blocks that changed, and those outside" "571|" "$(outside)"
 same "extents of the swap file that have changed" "several" "$([ "$(changed_extents)" -gt 3 ] && echo several || echo few)"
 same "the file system, with the image" "0" "$(e2fsck -fn "$device" >"$room/log" 2>&1; echo $?)"
@@ -200,7 +200,7 @@ through
 same "the swap file's mark" "S1SUSPEND" "$(tail -c +4087 "$room/now" | head -c 9)"
 same "its info page, at slot 2" "Linux" "$(tail -c +8193 "$room/now" | head -c 5)"
 same "a resume through the device" "0" "$(timeout 300 "$program" resume "$device" <"$room/loader" >"$room/restored" 2>"$room/note"; echo $?)"
-# The loader has no page of its own that isn't zero, so what comes back is what was saved.
+# The loader has no page of its own that isn't zero, so what is restored is exactly what was saved.
 same "the restored dump" "$(cksum <"$room/saved")" "$(cksum <"$room/restored")"
 same "its header" "0|area last 1599 bad 0 image none|" "$(run inspect --offset "$offset" "$device")"
 same "a second resume" "1||no image" "$(run resume "$device" <"$room/loader")"

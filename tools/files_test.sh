@@ -1,6 +1,6 @@
 #!/bin/sh
 # Hibernates and resumes over real files with the built program, and compares its notes, its output and its statuses. The program is the
-# first word, or crates/swsusp/out/swsusp, which `rt run` leaves. Prints a line for each check, and ends with status 1 where one differs.
+# first word, or crates/swsusp/out/swsusp, which `rt run` leaves. Prints a line for each check, and ends with status 1 if one differs.
 set -u
 top=$(cd "$(dirname "$0")/.." && pwd)
 program=${1:-$top/crates/swsusp/out/swsusp}
@@ -13,7 +13,7 @@ trap 'trap "" PIPE HUP INT TERM; rm -rf "$room"' EXIT
 trap 'exit 1' PIPE HUP INT TERM
 failed=0
 
-# What is tried, and what came: status, output and note on one line.
+# The arguments are what is tried, and the expected and the actual result: status, output and note on one line.
 same() {
     if [ "$2" = "$3" ]; then
         echo "as told: $1"
@@ -23,21 +23,21 @@ same() {
     fi
 }
 
-# Ends a command that hangs, and tells its status, output and note.
+# Runs the program, ends it if it hangs, and prints its status, output and note.
 told() {
     status=0
     timeout 60 "$program" "$@" >"$room/out" 2>"$room/note" || status=$?
     echo "$status|$(tr -d '\0' <"$room/out")|$(cat "$room/note")"
 }
 
-# Resumes the image of an area into the loader's dump, and tells status, length of the output and note.
+# Resumes the image of an area into the loader's dump, and prints status, length of the output and note.
 resumed() {
     status=0
     timeout 60 "$program" resume "$@" <"$room/loader" >"$room/restored" 2>"$room/note" || status=$?
     echo "$status|$(($(wc -c <"$room/restored")))|$(cat "$room/note")"
 }
 
-# The number of 4 bytes at a place of the restored dump.
+# Prints the 4-byte number at a place of the restored dump.
 number() {
     od -A n -t u4 -j "$1" -N 4 "$room/restored" | tr -d ' '
 }
@@ -52,12 +52,12 @@ same "a dump" "16836" "$(($(wc -c <"$room/saved")))"
 same "a hibernation" "0|hibernated 5|" "$(told hibernate "$area" <"$room/saved")"
 same "its image" "0|area last 1599 bad 0 image 1 flags 2 hw -|" "$(told inspect "$area")"
 
-# The same machine's stream has the pages that lie after the image's first map.
+# The same machine's stream has the pages that come after the image's first map.
 "$program" export <"$room/saved" >"$room/stream"
 same "a stream" "28672" "$(($(wc -c <"$room/stream")))"
 same "its pages" "$(tail -c +8193 "$area" | head -c 28672 | cksum)" "$(cksum <"$room/stream")"
 
-# Imported into another area it leaves what the hibernation left. A stream that is cut off leaves no image.
+# An import into another area leaves what the hibernation left. A stream that is cut off leaves no image.
 other=$room/other.img
 sh "$top/tools/make_area.sh" "$other" 1599
 before=$(head -c 4096 "$other" | cksum)
@@ -83,7 +83,7 @@ same "a second resume" "1|0|no image" "$(resumed "$area")"
 same "the area, after the second resume" "$before" "$(cksum <"$area")"
 same "its header" "0|area last 1599 bad 0 image none|" "$(told inspect "$area")"
 
-# The restored dump is of a machine that can hibernate again. The loader's has 1,000 page frames in use.
+# The restored dump is of a machine that can hibernate again. The loader's machine has 1,000 page frames in use.
 same "a hibernation of what was restored" "0|hibernated 5|" "$(told hibernate "$area" <"$room/first")"
 same "its resume" "0|20936|" "$(resumed "$area")"
 same "what it restored" "$(cksum <"$room/first")" "$(cksum <"$room/restored")"
@@ -95,15 +95,15 @@ same "its image, without zeros" "0|area last 1599 bad 0 image 1 flags 258 hw -|"
 same "its resume" "0|20936|" "$(resumed "$area")"
 same "what it restored" "$(cksum <"$room/first")" "$(cksum <"$room/restored")"
 
-# A full disk under the output: the image is gone.
+# The output goes to a full disk: the image is gone.
 same "a hibernation, before a full disk" "0|hibernated 5|" "$(told hibernate "$area" <"$room/saved")"
 status=0
 timeout 60 "$program" resume "$area" <"$room/loader" >/dev/full 2>"$room/note" || status=$?
 same "a full disk" "4|sink fault" "$status|$(cat "$room/note")"
 same "the image, after a full disk" "1|0|no image" "$(resumed "$area")"
 
-# A limit on the size of files, of 16 KiB here (32 times 512 bytes): a write past it fails as another one does where the caller ignores the
-# signal that it brings (SIGXFSZ), and else ends the program.
+# A limit on the size of files, here of 16 KiB (32 times 512 bytes). If the caller ignores the signal that it raises (SIGXFSZ), a write past it
+# fails like any other; else the signal ends the program.
 limited() {
     status=0
     (
@@ -123,12 +123,12 @@ same "a resume whose output passes a limit" "4|16384|sink fault" "$(limited resu
 same "the image, after a limit" "1|0|no image" "$(resumed "$room/limited.img")"
 same "an export past a limit" "4|16384|sink fault" "$(limited export <"$room/saved")"
 
-# Standard streams that are closed.
+# Closed standard streams.
 status=0
 timeout 60 "$program" hibernate "$area" >"$room/out" 2>"$room/note" <&- || status=$?
 same "without standard input" "4||source fault" "$status|$(cat "$room/out")|$(cat "$room/note")"
 
-# Files that can't be opened. Root may write a file that is read-only.
+# Files that can't be opened. Root may write to a file that is read-only.
 same "no such file" "7||open fault" "$(told hibernate "$room/none" <"$room/saved")"
 same "no such file, and a bad dump" "7||open fault" "$(told resume "$room/none" <"$area")"
 same "a directory" "7||open fault" "$(told hibernate "$room" <"$room/saved")"

@@ -2,7 +2,7 @@
 """fit_lines.py FILE..: breaks the lines of specs (.antt) and sources (.rt) that are over 120 columns.
 
 Comments are filled anew, `use` lines are split, and other lines are broken where the fewest brackets are open: after an arrow or an
-equals sign, before another operator, `then` or `else`, or else before an argument. Lines in which it finds no such place are told. Run
+equals sign, before another operator, `then` or `else`, or else before an argument. Lines without such a place are reported. Run
 `rt fmt` afterwards.
 """
 import pathlib
@@ -14,13 +14,13 @@ WIDTH = 120
 COMMENT = re.compile(r"^(\s*)(//!|///|//|--)( |$)")
 USE = re.compile(r"^(\s*(?:ghost )?use [^{]*)\{(.*)\}(;?)$")
 
-# Where a line may be broken, and whether what is found stays on the first part.
+# Texts at which a line may be broken, and whether the text stays on the first part.
 PLACES = [("; ", True), (" → ", True), (" = ", True), (" × ", False), (" ⊎ ", False), (" ++ ", False), (" ∷ ", False), (" && ", False), (" || ", False),
           (" then ", False), (" else ", False)]
 
 
 def filled(lines, at):
-    """The comment that begins with a line, filled anew, and where it ends."""
+    """Returns the comment that begins with a line, filled anew, and where it ends."""
     start = "".join(COMMENT.match(lines[at]).group(1, 2)) + " "
     end, text = at, []
     while end < len(lines) and lines[end].startswith(start) and not re.match(r"\s*([-*|#]|\d+\.|$)", lines[end][len(start) :]):
@@ -31,7 +31,7 @@ def filled(lines, at):
 
 
 def split(found):
-    """A `use` line in as many as it takes."""
+    """Splits a `use` line into as many lines as it takes."""
     head, names, end = found.groups()
     lines, now = [], []
     for name in names.split(", "):
@@ -43,7 +43,7 @@ def split(found):
 
 
 def place_in(line):
-    """Where a line is broken: at the least depth, and there as far on as fits."""
+    """Returns where to break a line: at the least depth, and there as far on as fits."""
     begin = len(line) - len(line.lstrip())
     depth, found = 0, None
     for at, sign in enumerate(line):
@@ -58,7 +58,7 @@ def place_in(line):
 
 
 def space_in(line):
-    """Where else: before an argument or a parameter, at the least depth, and there as far on as fits. Texts and attributes aren't broken."""
+    """Returns another place to break: before an argument or a parameter, at the least depth, as far on as fits. Texts and attributes aren't broken."""
     begin = len(line) - len(line.lstrip())
     depth, found = 0, None
     for at, sign in enumerate(line[: WIDTH + 1]):
@@ -79,7 +79,7 @@ def broken(line, rest):
 
 
 def texts_in(lines):
-    """Of each line whether it begins inside a text of several lines, or a text begins in it that goes on in the next."""
+    """Returns for each line whether it begins inside a text of several lines, or begins such a text."""
     inside, found = False, []
     for line in lines:
         was, code = inside, re.sub(r"\\\\.|'.'", "", line)

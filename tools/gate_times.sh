@@ -1,16 +1,16 @@
 #!/usr/bin/env bash
 # Runs the gate, or `rt ci NAME..`, and then prints how many processor seconds the proof, the tests and the edits of each crate
-# took, the slowest crate first. Only what is done anew takes time: with --anew all is.
+# took, the slowest crate first. Only what is done anew takes time; with --anew that is everything.
 #
 #   tools/gate_times.sh [--anew] [NAME..]
 #
 # rt prints no times, so the processes of its prover are looked at twice a second: a check's last half second may be missing. The
-# log that it names at the end has what rt said, each line with the seconds since the start. The status is rt's.
+# log that is named at the end has rt's output, each line with the seconds since the start. The status is rt's.
 set -u
 cd "$(dirname "$0")/.." || exit 1
 log=$(mktemp "${TMPDIR:-/tmp}/gate_times.XXXXXX") || exit 1
 ticks=$(getconf CLK_TCK)
-# by check (its process and when that began): its crate and what it is for, and the ticks that it has taken
+# By check (its process and when that began): its crate and purpose, and the ticks that it has taken.
 declare -A label spent
 
 stamp() {
@@ -19,7 +19,7 @@ stamp() {
     done
 }
 
-# Whether process $1 was started by the gate, or by what the gate started.
+# Whether process $1 was started by the gate, directly or not.
 is_of_gate() {
     local at=$1 line fields
     while [ "$at" -gt 1 ]; do
@@ -31,7 +31,7 @@ is_of_gate() {
     return 1
 }
 
-# Prints the crate that process $1 checks, and what for.
+# Prints the crate that process $1 checks, and for what.
 label_of() {
     local words name='' kind=proof i
     mapfile -d '' -t words <"/proc/$1/cmdline"
@@ -48,7 +48,7 @@ label_of() {
     echo "${name:--} $kind"
 }
 
-# Adds up what each check of the gate has taken so far, with the workers that it has started.
+# Adds up what each check of the gate has taken so far, including the workers that it started.
 look() {
     local file line fields key pid
     local -A working=() taken=()

@@ -15,7 +15,7 @@ HERE = pathlib.Path(__file__).resolve().parent.parent
 
 
 def toolchain():
-    """The command rt as a module."""
+    """Loads the command rt as a module."""
     path = os.path.realpath(shutil.which("rt"))
     loader = importlib.machinery.SourceFileLoader("rt_command", path)
     made = importlib.util.module_from_spec(importlib.util.spec_from_loader("rt_command", loader))
@@ -26,7 +26,7 @@ def toolchain():
 
 
 def text_of(rt, crate):
-    """All that the crate's own library is made from."""
+    """Returns everything that the crate's own library is made from."""
     files = sorted(rt.rtlib.files_of(crate.folder))
     return [(os.path.relpath(it, crate.folder), pathlib.Path(it).read_bytes()) for it in files], [it.name for it in crate.deps], crate.of_kit
 

@@ -1,25 +1,25 @@
 #!/bin/sh
 # linux_lab.sh [-m MACHINE] [-d FOLDER] [-t SECONDS] [-i INITRAMFS] STEP ..: hibernates and resumes a real Linux 6.1 in qemu. The steps are:
 #
-#   build                 makes the machine: a kernel, and an initramfs with the one program linux_lab/init.c
-#   hibernate IMAGE [W..] boots it with IMAGE as its disk, and lets it hibernate there. Where there is no such file, it is made a swap
-#                         area of 16,383 slots first. The words W are settings for init.c, as lab.pages=100, or `hibernate=`, which
-#                         leaves the image compressed. Status 0 where the area has an image afterwards
-#   resume IMAGE [W..]    boots it again and lets the kernel resume the image, which is used up. Status 0 where the program that was
+#   build                 makes the machine: a kernel, and an initramfs with linux_lab/init.c as its only program
+#   hibernate IMAGE [W..] boots it with IMAGE as its disk, and lets it hibernate there. If there is no such file, it is first made a swap
+#                         area of 16,383 slots. The words W are settings for init.c, such as lab.pages=100, or `hibernate=`, which
+#                         leaves the image compressed. Status 0 if the area has an image afterwards
+#   resume IMAGE [W..]    boots it again and lets the kernel resume the image, which is used up. Status 0 if the program that was
 #                         saved goes on, finds its pages as it left them, and prints the word that this very boot was handed
 #   cases IMAGE CASES     boots it once and lets the kernel try to resume the image with each damage of the disk CASES, which
-#                         `linux_lab/image.py cases` makes, for the MIPS machine. Status 0 where none is resumed
-#   swap IMAGE            boots it and lets the kernel swap to IMAGE. Status 0 where it does
+#                         `linux_lab/image.py cases` makes, for the MIPS machine. Status 0 if none is resumed
+#   swap IMAGE            boots it and lets the kernel swap to IMAGE. Status 0 if it does
 #   debian PROGRAM        for x86-64: makes a Debian of its own by debootstrap, with the kernel's modules, what `make install-initramfs`
-#                         installs, and PROGRAM as its swsusp_image. In it mkinitramfs makes the initramfs `tools`, and dracut
-#                         `dracut`, and with systemd in it `systemd`; and both, without PROGRAM, `tools_bare` and `dracut_bare`. A boot takes one
-#                         of them with -i
+#                         installs, and PROGRAM as its swsusp_image. In it mkinitramfs makes the initramfs `tools`, and dracut makes
+#                         `dracut`, and `systemd` with systemd in it; without PROGRAM they make `tools_bare` and `dracut_bare`. A boot takes
+#                         one of them with -i
 #   all                   build, and then a hibernation and its resume
 #
 # MACHINE is mips, the default, a 64-bit little-endian MIPS whose kernel is built from Debian's linux-source-6.1, or x86-64, whose kernel
-# is Debian's own, taken out of its package. What is made stays in FOLDER, ~/.cache/dirukofe-linux-lab without the option. A boot that takes
-# more than SECONDS, 180 without the option, is ended. What a boot prints is left in IMAGE.STEP.log. IMAGE's disk is written as it is:
-# keep a copy of what is still wanted. JOBS says how many processors a build takes.
+# is Debian's own, taken out of its package. What is made stays in FOLDER, by default ~/.cache/dirukofe-linux-lab. A boot that takes
+# more than SECONDS, by default 180, is ended. What a boot prints is left in IMAGE.STEP.log. IMAGE's disk is written to as it is:
+# keep a copy of what you still want. JOBS says how many processors a build takes.
 set -eu
 here=$(cd "$(dirname "$0")" && pwd)
 machine=mips
@@ -68,7 +68,7 @@ x86-64)
 esac
 built=$lab/$machine
 
-# The kernel of the MIPS machine, from Debian's source, unless one of this configuration is there.
+# Builds the kernel of the MIPS machine from Debian's source, unless there is one of this configuration.
 build_mips() {
     source=/usr/src/linux-source-6.1.tar.xz
     [ -f $source ] || stop "no $source: docs/LINUX.md names Debian's packages"
@@ -85,13 +85,13 @@ build_mips() {
     done
     "$@" -j "$jobs" vmlinux >>"$built/build.log" 2>&1 || stop "$built/build.log says why"
     cp "$built/objects/vmlinux" "$built/kernel"
-    # Where the hardware signature lies in memory, which firmware sets elsewhere: the linked address without the segment's.
+    # The address of the hardware signature in memory, which the firmware sets elsewhere: the linked address without the segment's.
     mips64el-linux-gnuabi64-nm "$built/kernel" | sed -n 's/.*\(.......\) [BbDd] swsusp_hardware_signature$/0x\1/p' >"$built/sigat"
     cp "$here/linux_lab/mips.config" "$built/config"
     rm -rf "$built/source" "$built/objects"
 }
 
-# Debian's kernel for x86-64, and the modules of its disks in the order in which they are loaded.
+# Takes Debian's kernel for x86-64, and the modules of its disks in the order in which they are loaded.
 build_x86_64() {
     package=$(apt-cache depends linux-image-amd64 | sed -n 's/ *Depends: \(linux-image-6\.1.*\)/\1/p')
     [ -n "$package" ] || stop "apt knows no kernel 6.1 of Debian"
@@ -131,7 +131,7 @@ build() {
     echo "built $built"
 }
 
-# A Debian of its own, with what makes an initramfs, and the kernel's package.
+# Makes a Debian of its own, with what makes an initramfs, and the kernel's package.
 build_tree() {
     tree=$built/debian
     packages="initramfs-tools,busybox,dracut-core,systemd,systemd-sysv,dbus"
@@ -150,12 +150,12 @@ build_tree() {
         rm -rf "$tree/package"
         echo "$package" >"$tree/kernel"
     fi
-    # The drivers of this machine's disks, so that the initramfs is small.
+    # Only the drivers of this machine's disks, so that the initramfs is small.
     echo MODULES=list >"$tree/etc/initramfs-tools/conf.d/lab"
     printf '%s\n' virtio_pci virtio_blk >"$tree/etc/initramfs-tools/modules"
 }
 
-# An initramfs of this name, by a program of that Debian.
+# Makes an initramfs of this name by a program of that Debian.
 make_initramfs() {
     made=$built/$1
     shift
@@ -183,13 +183,13 @@ debian() {
     echo "built $built/debian"
 }
 
-# Runs the machine until it switches itself off, or its time is up, and leaves in `ended` how it ended.
+# Runs the machine until it switches itself off or its time is up, and leaves in `ended` how it ended.
 run_machine() {
     timeout -k 5 "$limit" "$emulator" -accel tcg "$@" -kernel "$built/kernel" -initrd "$built/$initramfs" -append "$words" \
         -drive "file=$image,format=raw,if=none,id=d0" -drive "file=$image.word,format=raw,if=none,id=d1" \
         $third -nic none -display none -monitor none -no-reboot -serial "file:$log" >"$image.qemu" 2>&1 &
     pid=$!
-    # `timeout` hands the signal on to the machine that it started.
+    # `timeout` passes the signal on to the machine that it started.
     trap 'kill "$pid" 2>/dev/null; exit 1' INT TERM HUP
     ended=0
     wait "$pid" || ended=$?
@@ -231,7 +231,7 @@ boot() {
     tr -d '\r' <"$log" >"$log.new" && mv "$log.new" "$log"
 }
 
-# What the kernel and init.c said of this boot, without the time stamps.
+# Prints what the kernel and init.c said of this boot, without the time stamps.
 said() {
     sed -n -e 's/^\(\[[ 0-9.]*\] \)*\(PM: .*\)/\2/p' -e '/^lab: \(frames\|slots\)/d' -e 's/.*\(lab: .*\)/\1/p' "$log"
 }

@@ -1,10 +1,10 @@
 #!/bin/sh
 # linux_test.sh [-d FOLDER] [-t SECONDS] [-p "PART.."] [SWSUSP [SWSUSP_MACHINE [SWSUSP_IMAGE]]]: tries the programs against real kernels, in
-# the machines that linux_lab.sh builds in FOLDER, and boots for at most SECONDS. The programs are those that `rt run` leaves, without the words.
-# Prints a line for each case, and how many passed; ends with status 1 where one differs. Skips, with status 0, without qemu.
+# the machines that linux_lab.sh builds in FOLDER, and boots for at most SECONDS. The programs are those that `rt run` leaves unless words name
+# others. Prints a line for each case, and how many passed; ends with status 1 if one differs. It is skipped, with status 0, without qemu.
 #
-# The parts: plain, used, bad, full, compressed, signature, x86, damage, initramfs. Without -p all are tried. Expected answers come from what
-# the kernel logs and does, and from docs/FORMATS.md by linux_lab/image.py, which reads images by itself.
+# The parts are plain, used, bad, full, compressed, signature, x86, damage and initramfs. Without -p all are tried. What is expected comes from
+# what the kernel logs and does, and from docs/FORMATS.md by linux_lab/image.py, which reads images by itself.
 set -u
 top=$(cd "$(dirname "$0")/.." && pwd)
 parts="plain used bad full compressed signature x86 damage initramfs"
@@ -62,12 +62,12 @@ image() {
     python3 "$top/tools/linux_lab/image.py" "$@"
 }
 
-# A copy that takes no room for blocks of zeros.
+# Makes a copy that takes no room for blocks of zeros.
 copy() {
     cp --sparse=always "$1" "$2"
 }
 
-# What the kernel logged: how many pages it copied, and a number from another line.
+# Print what the kernel logged: a number from a line, and how many pages it copied.
 logged() {
     sed -n "s/.*$2.*/\\1/p" "$1.hibernate.log"
 }
@@ -76,7 +76,7 @@ copied() {
     logged "$1" 'Need to copy \([0-9]*\) pages'
 }
 
-# Status, output and note of a program over a dump.
+# Prints status, output and note of a program over a dump.
 told() {
     dump=$1
     shift
@@ -85,7 +85,7 @@ told() {
     echo "$status|$(head -c 200 "$room/out" | tr -d '\0')|$(cat "$room/note")"
 }
 
-# The status of a resume, and its note, with the restored dump left in $room/restored.
+# Prints the status of a resume and its note, and leaves the restored dump in $room/restored.
 resumed() {
     dump=$1
     shift
@@ -94,8 +94,8 @@ resumed() {
     echo "$status|$(cat "$room/note")"
 }
 
-# What the kernel makes of an image, with settings of init.c after it: `resumes` where the saved program goes on, with its pages and the
-# word of this boot, `refuses` where the kernel goes on as it was booted; else its last line.
+# Prints what the kernel does with an image, with the settings of init.c that follow: `resumes` if the saved program goes on, with its pages and
+# the word of this boot; `refuses` if the kernel goes on as it was booted; else its last line.
 kernel() {
     if lab resume "$@" >"$1.out" 2>&1; then
         echo resumes
@@ -106,13 +106,13 @@ kernel() {
     fi
 }
 
-# What the kernel makes of a copy of an image.
+# Prints what the kernel does with a copy of an image.
 kernel_of_copy() {
     copy "$1" "$room/copy.img"
     kernel "$room/copy.img"
 }
 
-# A real image of this name, with the settings of init.c that follow. The area is made first where there is none.
+# Makes a real image of this name, with the settings of init.c that follow. If there is no area, it is made first.
 hibernated() {
     name=$1
     shift
@@ -123,14 +123,14 @@ hibernated() {
     return $status
 }
 
-# The slots that the saved program let out, as image.py takes them.
+# Prints the slots that the saved program's pages went out to, in image.py's form.
 let_out() {
     sed -n 's/^lab: slots [0-9]* [0-9]* \([0-9]*\) \([0-9]*\)$/\1 \2/p' "$1.hibernate.log" | while read -r first count; do
         echo "$first-$((first + count - 1))"
     done
 }
 
-# The lines of `swsusp_image show` with these keys, after its status: each as it stands, but of the runs the sum of their lengths.
+# Prints the status of `swsusp_image show` and its lines with these keys: each as it stands, but for runs the sum of their lengths.
 shown() {
     status=0
     timeout 300 "$imager" show "$1" >"$room/shown" 2>"$room/note" || status=$?
@@ -144,8 +144,8 @@ shown() {
     done
 }
 
-# What the kernel's log says of an image without compression, as lines of `show`: $2 is the last slot of its area, $3 its number of bad slots,
-# $4 its flags. It logs the pages without the info page, and it writes a map after each 511 pages.
+# Prints what the kernel's log says of an image without compression, as lines of `show`: $2 is the last slot of its area, $3 its number of bad slots,
+# $4 its flags. The kernel logs the pages without the info page, and writes a map after every 511 pages.
 as_logged() {
     pages=$(($(logged "$1" 'Saving image data pages (\([0-9]*\) pages)') + 1))
     size=$(logged "$1" 'Wrote \([0-9]*\) kbytes in')
@@ -158,18 +158,18 @@ as_logged() {
 
 keys="image area last_page bad_pages flags memory_pages image_pages stream_pages maps block_run frame_run"
 
-# What a generic header says of the kernel, which its log begins with.
+# Prints what a generic header says of the kernel; the kernel's log begins with it.
 named() {
     printf '%s\n' 0 "header generic" "sysname Linux" "release $(logged "$1" 'Linux version \([^ ]*\) ')" \
         "version $(logged "$1" 'Linux version [^#]*\(#.*\)')" "machine mips64" "kernel $(logged "$1" 'Linux version \([0-9.]*\)')"
 }
 
-# The page frame of the first page with a pattern.
+# Prints the page frame of the first page with a pattern.
 patterned() {
     sed -n 's/^lab: frames 1 0 \([0-9]*\) [0-9]*$/\1/p' "$1.hibernate.log"
 }
 
-# What swsusp_image tells of a real image without compression, and its stream, in $room/streamed.
+# Checks what swsusp_image says of a real image without compression, and leaves its stream in $room/streamed.
 looked_at() {
     real=$room/$1.img
     same "$1: swsusp_image check" "0|whole|" "$(told /dev/null "$imager" check "$real")"
@@ -182,7 +182,7 @@ looked_at() {
     same "$1: page, of a page frame with a pattern" "$(cksum <"$room/wanted")" "$(cksum <"$room/page")"
 }
 
-# All that is told of a real image without compression: $1 is its name, $2 the last slot of its area, $3 its number of bad slots.
+# Checks all that is said of a real image without compression: $1 is its name, $2 the last slot of its area, $3 its number of bad slots.
 round() {
     real=$room/$1.img
     pages=$(copied "$real")
@@ -204,7 +204,7 @@ round() {
     same "$1: the patterns in their page frames" "patterns $frames of $frames" "$(image patterns "$real.hibernate.log" "$room/restored")"
     same "$1: a second resume" "1|no image" "$(resumed "$room/loader" "$room/ours.img")"
     same "$1: the kernel refuses the area afterwards" refuses "$(kernel_of_copy "$room/ours.img")"
-    # What swsusp writes of that machine's memory, the kernel resumes.
+    # The kernel resumes what swsusp writes of that machine's memory.
     extra=$(image tables "$real")
     copy "$room/ours.img" "$room/written.img"
     same "$1: swsusp hibernates that machine" "0|hibernated $((pages + extra))|" \
@@ -226,12 +226,12 @@ round() {
     same "$1: the kernel resumes its own image" resumes "$(kernel_of_copy "$real")"
 }
 
-# Whether the kernel swaps to an area.
+# Prints whether the kernel swaps to an area.
 swaps() {
     if lab swap "$1" >"$room/swap.out" 2>&1; then echo yes; else echo no; fi
 }
 
-# A fresh area, and what no other part tells: the area is one to swap to once its image is given up.
+# A fresh area, and a check that no other part makes: once its image is given up, the kernel swaps to the area.
 part_plain() {
     hibernated plain lab.pages=100 || return
     round plain 16383 0
@@ -255,7 +255,7 @@ part_used() {
     round used 16383 0
 }
 
-# Bad pages at the front, in a run, amid the pages, and at the end.
+# Bad pages at the front, in a run, among the pages, and at the end.
 part_bad() {
     sh "$top/tools/make_area.sh" "$room/bad.img" 16383
     image bad "$room/bad.img" 1 2 3 600 1500 1501 16383
@@ -264,7 +264,7 @@ part_bad() {
     same "bad: show, each bad page" "$(echo 0; printf 'bad_page %s\n' 1 2 3 600 1500 1501 16383)" "$(shown "$real" bad_page)"
 }
 
-# The least number of pages, from $2 on, whose image fills its last map or its last number page.
+# Prints the least number of pages, from $2 on, whose image fills its last map or its last number page.
 filling() {
     n=$2
     case $1 in
@@ -274,7 +274,7 @@ filling() {
     echo $n
 }
 
-# How many pages the kernel copies differs a little from boot to boot, so the number is approached by pages more of the saved program.
+# The number of pages that the kernel copies differs a little from boot to boot, so it is approached by further pages of the saved program.
 part_full() {
     for name in map numbers; do
         real=$room/$name.img
@@ -297,8 +297,8 @@ part_full() {
     done
 }
 
-# A compressed image of this name: what is told of it, and that it is carried over into one that `swsusp` and the kernel resume. $2 is the last slot of
-# its area.
+# Checks a compressed image of this name: what is said of it, and that it is carried over into one that `swsusp` and the kernel resume. $2 is the
+# last slot of its area.
 carried_over() {
     real=$room/$1.img
     pages=$(copied "$real")
@@ -338,7 +338,7 @@ part_compressed() {
         echo "left out: Debian's default image (no qemu-system-x86_64)"
         return
     fi
-    # With the firmware's part in it, as Debian hibernates unless it is told otherwise: flag 1 beside that of the checksum.
+    # With the firmware taking part, as Debian hibernates unless it is told otherwise: flag 1 beside that of the checksum.
     machine=x86-64
     sh "$top/tools/make_area.sh" "$room/default.img" 32000
     if lab build >"$room/lab.out" 2>&1 && hibernated default lab.pages=100 lab.power=platform hibernate=; then
@@ -396,7 +396,7 @@ part_x86() {
         same "x86: the patterns in their page frames" "patterns 100 of 100" "$(image patterns "$real.hibernate.log" "$room/restored")"
         same "x86: a second resume" "1|no image" "$(resumed "$room/loader" "$room/ours.img")"
         same "x86: Debian's kernel refuses the area afterwards" refuses "$(kernel_of_copy "$room/ours.img")"
-        # A loader that carries the record of the architecture hands it on.
+        # A loader that carries the architecture's record passes it on.
         same "x86: check with the record" "0|resumed $pages|" "$(told "$room/loader" "$checker" check "$real")"
         same "x86: the area, after check" "$sum" "$(cksum <"$real")"
         sh "$top/tools/make_area.sh" "$room/moved.img" 32000
@@ -417,7 +417,7 @@ part_x86() {
     machine=mips
 }
 
-# Images that are damaged: what swsusp says of each, and what the kernel does with it. Those that the kernel refuses are tried in one boot.
+# Damaged images: what swsusp says of each, and what the kernel does with it. Those that the kernel refuses are tried in one boot.
 part_damage() {
     [ -f "$room/plain.img" ] || hibernated plain lab.pages=100 || return
     real=$room/plain.img
@@ -445,17 +445,17 @@ part_damage() {
     done
 }
 
-# A file of an initramfs that was made in the lab's own Debian.
+# Prints a file of an initramfs that was made in the lab's own Debian.
 packed() {
     gzip -d -c "$lab/x86-64/$1" | cpio -i --quiet --to-stdout "$2"
 }
 
-# What an initramfs has of this repository.
+# Lists the files of this repository in an initramfs.
 listed() {
     gzip -d -c "$lab/x86-64/$1" | cpio -t --quiet | grep -e dirukofe -e check-resume -e swsusp
 }
 
-# How a boot ends that takes one of those: `resumes`, `goes on` to a root that isn't there, or `stops`; after what the check said.
+# Prints what the check said in a boot with one of those, and how the boot ended: `resumes`, `goes on` to a root that doesn't exist, or `stops`.
 booted() {
     if lab -i "$1" resume "$2" resume=/dev/vda root=/dev/vdz rd.retry=5 rd.shell=0 rd.emergency=reboot ${3:-} >"$2.out" 2>&1; then
         end=resumes
@@ -468,7 +468,7 @@ booted() {
     echo $end
 }
 
-# Debian's own initramfs, with the check of packaging/initramfs before the resume, made by mkinitramfs (`tools`) and by dracut, without
+# Debian's own initramfs with the check of packaging/initramfs before the resume, made by mkinitramfs (`tools`) and by dracut, without
 # systemd in it (`dracut`) and with it (`systemd`).
 part_initramfs() {
     if ! command -v qemu-system-x86_64 >/dev/null || ! command -v debootstrap >/dev/null; then
@@ -506,7 +506,7 @@ usr/lib/dracut/hooks/pre-mount/05-check-resume.sh" "$(gzip -d -c "$lab/x86-64/dr
     machine=mips
 }
 
-# With each maker: a whole image, none, and a damaged one with both settings.
+# With each maker: a whole image, no image, and a damaged image with both settings.
 checked_boots() {
     copy "$real" "$room/copy.img"
     same "initramfs by $1: a whole image" "/dev/vda: the image is whole
@@ -525,7 +525,7 @@ stops" "$(booted "$1" "$room/copy.img" dirukofe.check=stop)"
     same "initramfs by $1: the area then" "$sum" "$(cksum <"$room/copy.img")"
 }
 
-# An area that lies in a device as a swap file, an image that is compressed, and the check switched off.
+# An area that lies in a device like a swap file, an image that is compressed, and the check switched off.
 other_boots() {
     image moved "$real" 100 >"$room/copy.img"
     same "initramfs: a whole image at an offset" "/dev/vda, offset 100: the image is whole

@@ -1,12 +1,12 @@
 #!/bin/sh
-# Starts two of the built programs at once over one area, and shows that the area is locked by the first: of two that write at most one does
-# its work, and the area is always as one of them alone leaves it. Then holds the lock by flock(1), and finds each command refused with
-# `open fault`, status 7, and every byte as before. The words are the programs, or those that `rt run` leaves, and the number of rounds,
-# 100 without the word:
+# Starts two of the built programs at once over one area, and shows that the first one locks it: of two that write, at most one does
+# its work, and the area is always as one of them alone leaves it. Then holds the lock by flock(1), and checks that each command is refused with
+# `open fault` and status 7, and that every byte is as before. The words are the programs, by default those that `rt run` leaves, and the number
+# of rounds, by default 100:
 #
 #   tools/locks_test.sh [SWSUSP [SWSUSP_MACHINE [ROUNDS]]]
 #
-# The areas are a file and, as root, a loop device. Prints a line for each check, and ends with status 1 where one differs; skips, with
+# The areas are a file and, as root, a loop device. Prints a line for each check, and ends with status 1 if one differs. It is skipped, with
 # status 0, without python3 or flock.
 set -u
 top=$(cd "$(dirname "$0")/.." && pwd)
@@ -37,7 +37,7 @@ trap clean EXIT
 trap 'exit 1' PIPE HUP INT TERM
 passed=0 failed=0
 
-# What is tried, what it is to be, and what came.
+# The arguments are what is tried, the expected result, and the actual one.
 same() {
     if [ "$2" = "$3" ]; then
         echo "as told: $1"
@@ -48,7 +48,7 @@ same() {
     fi
 }
 
-# The dump of a machine with 2,048 page frames and 1,600 slots, 300 of whose page frames are filled with the byte $1.
+# Prints the dump of a machine with 2,048 page frames and 1,600 slots, 300 of whose page frames are filled with the byte $1.
 dump() {
     python3 -c '
 import struct, sys
@@ -71,7 +71,7 @@ python3 "$top/tools/make_dump.py" loader >"$room/loader"
 sh "$top/tools/make_area.sh" "$room/empty" 1599
 : >"$room/nothing"
 
-# What one alone leaves, as it can be told apart by its checksum.
+# Keeps what one command alone leaves, to recognize it by comparison.
 alone() {
     cp "$room/$1" "$room/$2"
     "$program" "$3" "$room/$2" <"$room/$4" >"$room/$2.out" || echo "differs: $3 alone"
@@ -84,7 +84,7 @@ cp "$room/image" "$room/taken"
 "$program" resume "$room/taken" <"$room/loader" >"$room/restored" || echo "differs: resume alone"
 alone taken again hibernate second
 
-# The name of what an area holds: one of those above, `other` for those that hibernated or imported the second machine.
+# Prints the name of what an area holds: one of those above, with `other` for an area that the second machine hibernated or was imported into.
 holds() {
     for it in empty image other taken; do
         cmp -s "$room/$it" "$1" && echo "$it" && return
@@ -94,7 +94,7 @@ holds() {
 same "what each leaves alone" "empty image other other taken other" \
     "$(for it in empty image other imported taken again; do holds "$room/$it"; done | tr '\n' ' ' | sed 's/ $//')"
 
-# Starts two commands at once over area $1, which begins as $2; each has the name of its input. Tells their statuses and notes, and what the
+# Starts two commands at once over area $1, which begins as $2; each has the name of its input. Prints their statuses and notes, and what the
 # area holds.
 pair() {
     cat "$room/$2" >"$1" || echo "the area can't be written"
@@ -108,8 +108,8 @@ pair() {
     echo "$s1 $(cat "$room/note1")|$s2 $(cat "$room/note2")|$(holds "$1")"
 }
 
-# So many rounds of a pair, whose outcomes are all among the further words: those of one that has the lock while the other finds it held
-# (7), or of one after the other.
+# Runs the given number of rounds of a pair. The further words are the outcomes that are allowed: one command has the lock and the other finds
+# it held (7), or one runs after the other.
 race() {
     name=$1 at=$2 begin=$3 one=$4 input=$5 two=$6 other=$7
     shift 7
@@ -118,7 +118,7 @@ race() {
     round=0
     while [ "$round" -lt "$rounds" ]; do
         pair "$at" "$begin" "$one" "$input" "$two" "$other" >>"$room/came"
-        # A resume that was done has written the whole dump.
+        # A resume that succeeded has written the whole dump.
         case "$one:$s1" in resume:0) cmp -s "$room/restored" "$room/out1" || echo "a torn dump" >>"$room/came" ;; esac
         case "$two:$s2" in resume:0) cmp -s "$room/restored" "$room/out2" || echo "a torn dump" >>"$room/came" ;; esac
         round=$((round + 1))
@@ -146,7 +146,7 @@ else
     device= loop=
 fi
 
-# A lock that another holds: shared or exclusive, as flock(1) takes it.
+# Checks a command while another holds the lock: shared or exclusive, as flock(1) takes it.
 refused() {
     how=$1 wanted=$2 at=$3 before=$4 input=$5
     shift 5
@@ -173,8 +173,8 @@ for at in "$room/area" $loop; do
     refused -s "0|resumed 304|" "$at" image loader "$machine" check
 done
 
-# The lock is there while a command waits for its input, and while one waits for its output to be taken. What is tried is a try of
-# flock(1) for a shared and for an exclusive lock.
+# The lock is held while a command waits for its input, and while one waits for its output to be taken. flock(1) tries for a shared and for
+# an exclusive lock.
 locked() {
     exclusive=free shared=free
     flock -n -x "$1" true || exclusive=held
@@ -197,7 +197,7 @@ waits() {
         sleep 0.1
         tries=$((tries + 1))
     done
-    # It takes the lock right after it has opened the area, and reads its input then.
+    # The command takes the lock right after it has opened the area, and then reads its input.
     sleep 1
     came=$(locked "$at")
     cat "$room/$input" >&9
@@ -241,7 +241,7 @@ wait "$reader"
 cmp -s "$room/restored" "$room/out" && whole=whole || whole=torn
 same "its end" "0 whole free free" "$status $whole $(locked "$room/area")"
 
-# Two that only read don't stand in each other's way.
+# Two commands that only read don't lock each other out.
 cat "$room/image" >"$room/area"
 "$machine" check "$room/area" <"$room/loader" >"$room/out1" 2>&1 &
 first=$!

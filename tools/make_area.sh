@@ -1,6 +1,6 @@
 #!/bin/sh
-# make_area.sh FILE [LAST]: makes FILE a version 1 swap area of LAST slots (3000 without the word) and the header's, without an image,
-# as mkswap does.
+# make_area.sh FILE [LAST]: makes FILE a version 1 swap area without an image, as mkswap does, with the header's slot and LAST others (by
+# default 3000).
 last=${2:-3000}
 byte() {
     printf '\\%03o' $((last >> $1 & 255))

@@ -1,15 +1,15 @@
 #!/bin/sh
-# quick_test.sh [NAME..]: runs the tests of tests/, but for those of the stack, the story and the scripts of examples/ over programs that are built
-# without a proof.
+# quick_test.sh [NAME..]: runs the tests of tests/, except those of the stack, the story and the scripts of examples/, over programs that are
+# built without a proof.
 #
-# It is for somebody who has changed a line: minutes in the place of an hour. Nothing of a contract is looked at. A program is
-# built anew where a source is newer, and stays in out/unproved. With names of files of tests/ only those are run.
+# It is for somebody who has changed a line, and takes minutes instead of an hour. Contracts aren't checked. A program is
+# built anew if a source is newer, and stays in out/unproved. With names of files of tests/ only those are run.
 set -u
 top=$(cd "$(dirname "$0")/.." && pwd)
 built=$top/out/unproved
 mkdir -p "$built"
 
-# Builds the program $1 in the place of this shell, where its sources have changed.
+# Builds the program $1, in place of this shell, if its sources have changed.
 build() {
     if [ ! -x "$built/$1" ] || [ -n "$(find "$top/crates" -name '*.rt' -newer "$built/$1" | head -n 1)" ]; then
         echo "quick_test.sh: building $1 without proving it" >&2
@@ -32,7 +32,7 @@ if [ "$status" -ne 0 ]; then
     exit 1
 fi
 trap - EXIT HUP INT TERM
-# How much stack a command takes is told of the proved build: this one is compiled otherwise.
+# How much stack a command takes is said of the proved build only: this one is compiled differently.
 all=$(cd "$top/tests" && find . -name '*_tests.py' ! -name stack_tests.py | sed 's!^\./!!; s!\.py$!!' | sort)
 # shellcheck disable=SC2086
 SWSUSP=$built/swsusp SWSUSP_MACHINE=$built/swsusp_machine SWSUSP_IMAGE=$built/swsusp_image python3 "$top/tests/run.py" ${*:-$all} || status=1

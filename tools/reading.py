@@ -1,9 +1,9 @@
 #!/usr/bin/env python3
 """Writes docs/READING.md: the files of specifications that the contract of `run` reaches, in the order in which one reads them.
 
-A file is reached where the contract of `run` (crates/swsusp_cli/src/top.rt) names a definition of it, or a file that is reached does, by
-its `use` lines; so are the types of the sources that these name. Lines are counted without imports, comments and blank ones. With
---check it writes nothing, and ends with status 1 where the page isn't what the tree says.
+A file is reached if the contract of `run` (crates/swsusp_cli/src/top.rt) names a definition of it, or if the `use` lines of a file that is
+reached name it; so are the types of the sources that these files name. Lines are counted without imports, comments and blank ones. With
+--check it writes nothing, and ends with status 1 if the page isn't what the tree gives.
 """
 
 import pathlib
@@ -25,13 +25,13 @@ FLOORS = [
 
 
 def used(text):
-    """The modules that the text's `use` lines name: pairs of a crate and a path below its specs."""
+    """Yields the modules that the text's `use` lines name, as pairs of a crate and a path below its specs."""
     for crate, path, names, _ in USE.findall(text):
         yield crate, path.split("."), names
 
 
 def file_of(crate, path):
-    """The specification that a path names, and the rest of the path; None where it is one of the library's."""
+    """Returns the specification that a path names, and the rest of the path; None if it is one of the library's."""
     folder = TOP / "crates" / crate / "specs"
     for length in range(len(path), 0, -1):
         file = folder.joinpath(*path[:length]).with_suffix(".antt")
@@ -66,7 +66,7 @@ def count(text):
 
 
 def sentence(text):
-    """The file's first comment, up to its first full stop."""
+    """Returns the file's first comment, up to its first full stop."""
     words = []
     for line in text.splitlines():
         if not line.startswith("--"):

@@ -1,8 +1,8 @@
 #!/bin/sh
 # release.sh [LOG]: makes out/dirukofe-VERSION.tar.gz, an auditor's folder of the programs, their proof and what is to be read.
 #
-# LOG is what `rt ci --anew` printed on this commit; without it that is run, which takes an hour on four idle processors. The tree is to have
-# nothing that isn't committed, each crate of crates.txt is to be proved in the log, each edit refused, and nothing failed; else nothing is made.
+# LOG is what `rt ci --anew` printed on this commit; without it `rt ci --anew` is run, which takes an hour on four idle processors. Nothing is
+# made unless everything in the tree is committed, each crate of crates.txt is proved in the log, each edit is refused, and nothing failed.
 set -eu
 top=$(cd "$(dirname "$0")/.." && pwd)
 cd "$top"
@@ -26,7 +26,7 @@ else
 fi
 log=$room/$name/proof/log
 
-# Each function that the log calls proved, each crate and each edit; the log is believed only where none is missing and the last line says so.
+# Each function that the log calls proved, each crate and each edit. The log is believed only if none is missing and the last line says so.
 sed -n 's/^fn \(.*\): proved$/\1/p' "$log" | sort -u > "$room/$name/proof/functions"
 sed -n 's/^rt: \([a-z_]*\) proved.*/\1/p' "$log" | sort -u > "$room/proved"
 sed -n 's/^\([a-z_]*\):.*/\1/p' crates.txt | sort -u > "$room/crates"

@@ -1,7 +1,7 @@
 #!/bin/sh
-# Starts the built programs as a shell may start them: with standard streams closed, with a terminal as standard output, over what is no
-# swap area or no file, and compares their notes, their output, their statuses and the area's bytes. The programs are the words, or
-# those in crates/*/out, which `rt run` and `rt ci` leave. Prints a line for each check, and ends with status 1 where one
+# Starts the built programs as a shell may start them: with standard streams closed, with a terminal as standard output, over a file that is no
+# swap area, or over no file. Compares their notes, their output, their statuses and the area's bytes. The programs are the words, or
+# those in crates/*/out, which `rt run` and `rt ci` leave. Prints a line for each check, and ends with status 1 if one
 # differs. Without python3 no dumps are made, and what needs one is left out.
 set -u
 top=$(cd "$(dirname "$0")/.." && pwd)
@@ -19,7 +19,7 @@ trap 'trap "" PIPE HUP INT TERM; rm -rf "$room"' EXIT
 trap 'exit 1' PIPE HUP INT TERM
 failed=0
 
-# What is tried, and what came: status, output and note on one line.
+# The arguments are what is tried, and the expected and the actual result: status, output and note on one line.
 same() {
     if [ "$2" = "$3" ]; then
         echo "as told: $1"
@@ -29,7 +29,7 @@ same() {
     fi
 }
 
-# Ends a command that hangs, and tells its status, output and note.
+# Runs a command, ends it if it hangs, and prints its status, output and note.
 told() {
     status=0
     timeout 60 "$program" "$@" >"$room/out" 2>"$room/note" || status=$?
@@ -56,7 +56,7 @@ same "words that aren't plain" "2||words" "$(told inspect -- "$area")"
 same "a header by its block" "0|area last 3000 bad 0 image none|" "$(told inspect --offset 0 "$area")"
 same "a block after the file" "1||$zeros" "$(told inspect --offset 4294967295 "$area")"
 
-# With a standard stream closed, and with all of them.
+# One standard stream is closed, and then all of them.
 status=0
 "$program" inspect "$area" >"$room/out" 2>"$room/note" <&- || status=$?
 same "an area, without standard input" "0|area last 3000 bad 0 image none|" "$status|$(cat "$room/out")|$(cat "$room/note")"
@@ -69,7 +69,7 @@ same "a short file, without standard error" "4|" "$status|$(cat "$room/out")"
 status=0
 "$program" inspect "$area" <&- >&- 2>&- || status=$?
 same "an area, without any" "4" "$status"
-# Over a full pipe it waits with the area open, so its descriptors can be seen.
+# At a full pipe the program waits with the area open, so its descriptors can be seen.
 mkfifo "$room/full"
 exec 9<>"$room/full"
 dd if=/dev/zero bs=65536 count=1 >"$room/full" 2>"$room/note"
@@ -82,7 +82,7 @@ exec 9>&-
 same "what stands for closed streams" "/dev/null /dev/null" "$seen"
 same "the area, after all that" "$before" "$(cksum <"$area")"
 
-# A script of one event that is answered, and of none.
+# A script of one event that has a reply, and one of no event.
 status=0
 echo "step core" | "$program" replay >"$room/out" 2>"$room/note" || status=$?
 same "a script" "0|idle|" "$status|$(cat "$room/out")|$(cat "$room/note")"
@@ -101,8 +101,8 @@ if ! command -v python3 >/dev/null; then
     exit $failed
 fi
 
-# Every command with each set of standard streams closed, over an area of 1,599 slots or its image. What is opened then must not take the
-# place of a stream: nothing is printed into the area.
+# Every command with each set of standard streams closed, over an area of 1,599 slots or its image. A file that is opened then must not take the
+# place of a stream: nothing may be printed into the area.
 sh "$top/tools/make_area.sh" "$room/empty" 1599
 python3 "$top/tools/make_dump.py" saved >"$room/saved"
 python3 "$top/tools/make_dump.py" loader >"$room/loader"
@@ -116,7 +116,7 @@ printf 'boot\nsteps core 2\nclaim 3 10\n' >"$room/story"
 cp "$room/saved" "$room/dump"
 "$machine" core <"$room/saved" >"$room/core" || failed=1
 
-# Runs a command with the streams in $1 closed, over a fresh area: its status.
+# Runs a command with the streams in $1 closed, over a fresh area, and returns its status.
 closed() {
     sets=$1
     shift
@@ -132,8 +132,8 @@ closed() {
     ) || status=$?
 }
 
-# One line for a set of closed streams. $1 is the command's name, $2 what it uses: i where it reads its input, o where it prints,
-# n where it notes something, and $3 its status with all streams open.
+# Checks a command with each set of closed streams. $1 is the command's name, $2 what it uses: i if it reads its input, o if it prints,
+# n if it notes something, and $3 its status with all streams open.
 each() {
     name=$1 uses=$2 wanted=$3 before=$4 input=$5
     shift 5
@@ -143,7 +143,7 @@ each() {
     cp "$room/out" "$room/printed"
     for sets in 0 1 2 01 02 12 012; do
         closed "$sets" "$@"
-        # A stream that is used and closed fails, and the first one that is used says so.
+        # A command fails if it uses a closed stream, and the first such stream decides the status.
         expected=$wanted
         case $uses,$sets in *i*,*0*) expected=4 ;; *o*,*1*) expected=4 ;; *n*,*2*) expected=4 ;; esac
         if cmp -s "$room/disk" "$room/after"; then
@@ -159,7 +159,7 @@ each() {
         case $uses,$sets in *i*,*0*) allowed=before ;; esac
         case " $allowed " in *" $left "*) fits="as it may be" ;; *) fits=$left ;; esac
         cmp -s "$room/$before" "$room/after" && [ "$left" = after ] && fits="as it may be"
-        # What is open has nothing but what it has with all open, or a part of that, and a line of note.
+        # An open stream gets only what it gets with all streams open, or a part of that, and a line of note.
         case $sets in *1*) size=0 ;; *) size=$(($(wc -c <"$room/out"))) ;; esac
         head -c "$size" "$room/printed" >"$room/front"
         cmp -s "$room/front" "$room/out" || fits="$fits, and other output"
@@ -217,8 +217,8 @@ each "loader of no image" n 1 empty nothing "$images" loader "$room/disk"
 each "discard" o 0 image nothing "$images" discard "$room/disk"
 each "discard of no image" o 1 empty nothing "$images" discard "$room/disk"
 
-# A dump or a stream isn't written to a terminal, and an image isn't given up for what would go there. The first word is a file for the
-# note, the second the input; then the program and its words. Prints what the terminal shows, and ends with the program's status.
+# A dump or a stream isn't written to a terminal, and no image is given up for output that would go there. The first word is a file for the
+# note, the second the input; then come the program and its words. Prints what the terminal shows, and ends with the program's status.
 cat >"$room/terminal.py" <<'EOF'
 import os, subprocess, sys
 ours, theirs = os.openpty()
@@ -236,7 +236,7 @@ while True:
 sys.exit(run.wait())
 EOF
 
-# Runs a command over the image with this input and a terminal as standard output: its status, its note, what the terminal shows, and
+# Runs a command over the image with this input and a terminal as standard output. Prints its status, its note, what the terminal shows, and
 # whether the image is as it was.
 shown() {
     given=$room/$1
@@ -252,7 +252,7 @@ shown() {
 same "inspect on a terminal" "0||area last 1599 bad 0 image 1 flags 2 hw -|kept" "$(shown nothing "$program" inspect "$room/disk")"
 same "resume on a terminal" "4|sink fault||kept" "$(shown loader "$program" resume "$room/disk")"
 same "resume --any-kernel on a terminal" "4|sink fault||kept" "$(shown loader "$program" resume --any-kernel "$room/disk")"
-# It says so before it opens the area, so whether there is one isn't seen.
+# The program says so before it opens the area, so it doesn't notice whether there is one.
 same "resume of no such file on a terminal" "4|sink fault||kept" "$(shown loader "$program" resume "$room/none")"
 same "export on a terminal" "4|sink fault||kept" "$(shown saved "$program" export)"
 same "make on a terminal" "4|sink fault||kept" "$(shown story "$machine" make)"

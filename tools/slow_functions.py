@@ -1,11 +1,11 @@
 #!/usr/bin/env python3
-"""Prints what a crate's last whole check took longest for: the functions and files of lemmas, the slowest first.
+"""Prints what took longest in a crate's last full check: the functions and files of lemmas, the slowest first.
 
     python3 tools/slow_functions.py [CRATE..]
 
 `rt check` keeps each module that it has checked as a file below crates/CRATE/out/incremental. The time between one file and the one
-written before it is about what that module took, in seconds of the clock, so only a check from nothing on a machine that is idle tells
-something: remove that folder first. A function has several modules: its code (Lts), the borrow checker's part (Tie), its proof.
+written before it is about what that module took, in seconds of the clock. So only a check from nothing on an idle machine says
+anything: remove that folder first. A function has several modules: its code (Lts), the borrow checker's part (Tie), its proof.
 """
 
 import collections
@@ -36,7 +36,7 @@ def main(names):
     sums = collections.Counter()
     for crate in crates:
         for module, seconds in modules(crate):
-            # The parts of a function count together.
+            # The parts of a function are counted together.
             took[re.sub(r"\.(Lts|Tie|Proof|Code|Answers|Goals|Statement|Met|Layout|Invariants)$", "", module)] += seconds
             sums[crate] += seconds
     for name, seconds in took.most_common(ROWS):

@@ -36,7 +36,7 @@ REFUSED = [
     "mismatch (version code|sysname|release|version|machine)", rf"memory size {N} own {N}", rf"bad counts {N} {N}",
     rf"bad pfn {N}", rf"pfn order {N} {N}", rf"pfn end {N}", rf"too few loader frames {N} need {N}",
 ]
-# The replies that a script prints beside these.
+# The replies that a script prints besides these.
 REPLIES = REFUSED + [
     "ok", rf"more {N} of {N}", "booted image (yes|no)", rf"word {N}", rf"slot {N}", rf"written {N}", rf"reading {N}", rf"read {N}",
     rf"hibernated {N}", rf"undo (write|sync) {N}", "settled", rf"loading {N}", rf"resumed {N}", "cut", "idle", "not off", "not on",
@@ -46,7 +46,7 @@ REPLIES = REFUSED + [
 DUMP_NOTE = rf"dump (Short byte|Magic byte|Header byte|Zone byte|Extent byte|Frame byte|Order byte|Extra byte|Tables frame) {N}"
 STREAM_NOTE = rf"stream (Counts|Pfn|Order|End|Extra|Short) byte {N}"
 SCRIPT_NOTE = rf"script line {N} (TooLong|Byte|Word|Late|Count|Number|Range|Events|Hardware)"
-# Of each command and status the lines on standard output and the note.
+# For each command and status, the lines on standard output and the note.
 SHAPES = {
     "inspect": {0: ([rf"area last {N} bad {N} image (none|{N} flags {N} hw (-|{N}))"], []), 1: ([], [NO_SWAP])},
     "hibernate": {0: ([rf"hibernated {N}"], []), 1: ([], REFUSED), 3: ([], [DUMP_NOTE])},
@@ -58,12 +58,12 @@ SHAPES = {
 
 
 def page_of(entries):
-    """A page that begins with these numbers of 4 bytes."""
+    """Returns a page that begins with these numbers of 4 bytes."""
     return struct.pack("<%dI" % len(entries), *entries).ljust(PAGE, b"\0")
 
 
 def dump(used, records, hw_sig=0, extents=()):
-    """A dump of page frames 0 to 1099, of which those from `used` on are free but for page frame 10, where it has a record."""
+    """Returns a dump of page frames 0 to 1099: those from `used` on are free, except page frame 10 if it has a record."""
     entries = [0] * used + [1] * (2048 - used)
     if 10 in records:
         entries[10] = TASK_3
@@ -78,7 +78,7 @@ def dump(used, records, hw_sig=0, extents=()):
 
 
 def area(blocks, at=0):
-    """A disk of so many blocks with an empty area, whose header is in block `at`."""
+    """Returns a disk of `blocks` blocks with an empty area, whose header is in block `at`."""
     header = bytearray(PAGE)
     struct.pack_into("<2I", header, 1024, 1, SLOTS - 1)
     header[4086:] = b"SWAPSPACE2"
@@ -88,7 +88,7 @@ def area(blocks, at=0):
 
 
 class Bench:
-    """The program, a folder for its files, and what its runs came to."""
+    """The program, a folder for its files, and the results of its runs."""
 
     def __init__(self, program, room, seconds):
         self.program, self.room, self.seconds = program, room, seconds
@@ -96,7 +96,7 @@ class Bench:
         self.wrong = []
 
     def run(self, words, given, disk=None):
-        """Status, output and note of a run, and the disk's bytes after it."""
+        """Returns status, output and note of a run, and the disk's bytes after it."""
         path = self.room / "disk"
         if disk is not None:
             path.write_bytes(disk)
@@ -117,7 +117,7 @@ class Bench:
 
     @staticmethod
     def fault(command, status, out, note):
-        """What is wrong with the status and the texts of a run."""
+        """Returns what is wrong with the status and the texts of a run, or None."""
         if status is None:
             return "it hangs"
         if status not in SHAPES[command]:
@@ -135,14 +135,14 @@ class Bench:
 
 
 def unlike(text, shapes):
-    """The lines of a text that have none of these shapes, and what doesn't end a line."""
+    """Returns the lines of a text that have none of these shapes, and a rest without an end of line."""
     *lines, rest = text.split(b"\n")
     whole = re.compile("|".join(f"(?:{it})" for it in shapes) or r"(?!)")
     return [it for it in lines if not whole.fullmatch(it.decode("latin-1"))] + [rest] * bool(rest)
 
 
 def is_dump(text):
-    """Whether it has the size and the ascending records of a dump."""
+    """Returns whether the text has the size and the ascending records of a dump."""
     if text[:8] not in (b"SWSUDMP1", b"SWSUDMP2") or len(text) < 436:
         return False
     at = 424 + 8 * struct.unpack_from("<I", text, 28)[0]
@@ -160,7 +160,7 @@ def changed_blocks(before, after):
 
 
 def disk_fault(command, status, note, before, after):
-    """What a run has changed on its disk that it has no leave to."""
+    """Returns what a run has changed on its disk without leave, or None."""
     if len(before) != len(after):
         return "the disk has another length"
     changed = changed_blocks(before, after)
@@ -184,7 +184,7 @@ NUMBERS = [0, 1, 2, 3, 8, 10, 255, 510, 511, 512, 1023, 1099, 1100, 1101, 4095, 
 
 
 def mutated(dice, data, places=()):
-    """Bytes with a few changes: at one of the places, each the first byte and one past the last, or anywhere."""
+    """Returns bytes with a few changes: at one of the places, each given as first byte and one past the last, or anywhere."""
     data = bytearray(data)
     for _ in range(dice.choice([1, 1, 1, 2, 3, 6])):
         first, past = dice.choice(places) if places and dice.random() < 0.85 else (0, len(data))
@@ -215,7 +215,7 @@ def mutated(dice, data, places=()):
 
 
 def of_disk(dice, data):
-    """A disk of whole blocks, changed in its header, its first blocks, or anywhere."""
+    """Returns a disk of whole blocks with changes in its header, its first blocks, or anywhere."""
     blocks = [(b * PAGE, (b + 1) * PAGE) for b in range(1, 4)]
     mark = [(4056, 4096)] * 4 + [(1024, 1044), (1536, 1552)]
     fields = [(PAGE, PAGE + 96), (2 * PAGE + 388, 2 * PAGE + 440), (2 * PAGE, 2 * PAGE + 330), (3 * PAGE, 3 * PAGE + 80)]
@@ -233,7 +233,7 @@ EVENTS = ["boot", "steps core 2", "step core", "steps core 15", "claim 3 10", "s
 
 
 def of_script(dice, texts):
-    """A script whose lines are dropped, doubled, moved and changed; or one of events in any order."""
+    """Returns a script whose lines are dropped, doubled, moved and changed; or one of events in any order."""
     lines = dice.choice(texts).split("\n")
     if dice.random() < 0.4:
         lines = ["area 1100", "boot", "steps core 2"] + dice.choices(EVENTS, k=dice.randrange(5, 60))
@@ -311,7 +311,7 @@ def dump_round(dice, bench, samples):
 
 
 def with_slots(dice, saved):
-    """A dump in which some slots are tasks': the slot table's entries are after the number of record 2."""
+    """Returns a dump in which some slots are tasks': the slot table is the page of the second record from the end."""
     changed = bytearray(saved)
     at = len(changed) - 2 * 4100 + 4
     for slot in dice.sample(range(1, SLOTS - 76), dice.randrange(1, 5)):

@@ -1,9 +1,9 @@
 #!/bin/sh
 # unproved.sh swsusp|swsusp_machine|swsusp_image FILE: builds the program without proving it, and leaves it as FILE.
 #
-# rt offers no unproved program that can be kept: `rt try` builds one, with checks that make it too slow for tests/, runs it and takes it away. So this
-# links the module that `rt try` hands to its compiler to a place of its own while it is there, ends `rt try`, and compiles and links that
-# module by the tools of the toolchain, which lie beside the page that `rt doc` names.
+# rt offers no unproved program that can be kept: `rt try` builds one, with checks that make it too slow for tests/, runs it and removes it. So this
+# script links the module that `rt try` hands to its compiler to a place of its own while it exists, ends `rt try`, and compiles and links that
+# module by the tools of the toolchain, which are beside the page that `rt doc` names.
 set -eu
 case ${1:-} in swsusp | swsusp_machine | swsusp_image) ;; *) set -- ;; esac
 if [ $# -ne 2 ]; then
@@ -20,13 +20,13 @@ try=
 trap 'trap "" HUP INT TERM; end_try; rm -rf "$room"' EXIT
 trap 'exit 1' HUP INT TERM
 
-# Ends rt and what it has started: as the leader of a group of its own it is ended with all of the group.
+# Ends rt and what it has started: rt leads a process group of its own, and the whole group is ended.
 end_try() {
     [ -z "$try" ] || kill -- "-$try" 2> /dev/null || :
     try=
 }
 
-# Links the module of the whole program, the larger one of two, once the compiler has begun to read it.
+# Links the module of the whole program, the larger of two, once the compiler has begun to read it.
 catch_module() {
     for module in "$room"/tmp/*/*/module.bc; do
         [ "$(find "$module" -size +1M 2> /dev/null)" ] && [ "$(find "$(dirname "$module")" -name '*.o*' 2> /dev/null)" ] || continue

@@ -1,15 +1,15 @@
 #!/bin/sh
-# check.sh DEVICE [OFFSET]: tells the kernel's log what `swsusp_image check` finds of the image on DEVICE, before the kernel resumes it. OFFSET is
-# that of resume_offset, the block of the area's header. Nothing is written but the log.
+# check.sh DEVICE [OFFSET]: writes to the kernel's log what `swsusp_image check` finds about the image on DEVICE, before the kernel resumes it.
+# OFFSET is that of resume_offset, the block of the area's header. Nothing else is written.
 #
-# The status is 1 just where the image has a finding and the kernel's command line says dirukofe.check=stop. A check that fails is named so and is no
-# reason to stop; of an area without an image nothing is said.
+# The status is 1 if and only if the image has a finding and the kernel's command line says dirukofe.check=stop. A check that fails is reported as
+# failed and is no reason to stop. If the area has no image, nothing is said.
 device=$1
 offset=${2:-0}
-# At most so many findings are told one by one, since the kernel takes only some lines at a time from a program.
+# The most findings that are written one by one: the kernel takes only a limited number of lines at a time from a program.
 most=6
 
-# Errors are shown on the console of a quiet boot too, remarks aren't.
+# Errors are shown on the console even of a quiet boot; remarks aren't.
 error() {
     echo "<3>dirukofe: $1" > /dev/kmsg
 }
@@ -42,7 +42,7 @@ fi
 status=0
 told=$(swsusp_image "$@" 2>&1) || status=$?
 
-# The lines that say what is wrong: not the last one, which counts them.
+# The lines that say what is wrong: all but the last one, which counts them.
 findings=
 tell() {
     shown=0

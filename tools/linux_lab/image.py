@@ -36,7 +36,7 @@ import lzo1x  # noqa: E402
 PAGE = 4096
 FREE, TASK_1, BAD = 1, 1 << 16, 131072
 END = 2**64 - 1
-# A unit of a compressed image has so many pages, and is packed as it is where its bytes aren't more than these.
+# The number of pages of a unit of a compressed image; and the most bytes of a unit that is packed as it is.
 UNIT_PAGES, FEW = 32, 1500
 SIGNATURE = b"S1SUSPEND\0"
 SIGNED = 8
@@ -59,7 +59,7 @@ def bad_pages(header):
 
 
 class Image:
-    """An image on a disk: its header block, maps, info page and numbers. A mark that was taken back still leads to it."""
+    """An image on a disk: its header block, maps, info page and numbers. An image whose mark was cleared is still found."""
 
     def __init__(self, path):
         self.file = open(path, "rb")
@@ -96,11 +96,11 @@ class Image:
         return page
 
     def data(self):
-        """The blocks of the pages, by their page frames."""
+        """Returns the blocks of the pages, by their page frames."""
         return dict(zip(self.listed, self.chain[1 + self.meta :]))
 
     def units(self):
-        """Of a compressed image: the place of each unit's first page in the chain, the length of its bytes, and how many pages it has."""
+        """Yields for each unit of a compressed image the place of its first page in the chain, the length of its bytes, and its number of pages."""
         left, at = self.pages - 1, 1
         while left:
             length, count = number(self.block(self.chain[at]), 0), min(left, UNIT_PAGES)
@@ -109,26 +109,26 @@ class Image:
             left -= count
 
     def packed(self, at, length):
-        """The compressed bytes of the unit at this place."""
+        """Returns the compressed bytes of the unit at this place."""
         blocks = self.chain[at : at + -(-(8 + length) // PAGE)]
         return b"".join(map(self.block, blocks))[8 : 8 + length]
 
     def pages_behind_info(self):
-        """The number pages and the saved pages, in the order of the chain."""
+        """Returns the number pages and the saved pages, in the order of the chain."""
         if self.plain:
             return [self.block(b) for b in self.chain[1:]]
         content = b"".join(lzo1x.expand(self.packed(at, length), count * PAGE) for at, length, count in self.units())
         return [content[at : at + PAGE] for at in range(0, len(content), PAGE)]
 
     def contents(self):
-        """The pages, by their page frames."""
+        """Returns the pages, by their page frames."""
         found = self.pages_behind_info()
         if not self.plain:
             self.list_pages(b"".join(found[: self.meta]))
         return dict(zip(self.listed, found[self.meta :]))
 
     def own_blocks(self):
-        """The blocks that the kernel's own code filled: the header, maps, info page and number pages."""
+        """Returns the blocks that the kernel's own code filled: the header, maps, info page and number pages."""
         return [0, *self.maps, *self.chain[: 1 + (self.meta if self.plain else 0)]]
 
 
@@ -154,7 +154,7 @@ def facts(path):
 
 
 def runs(members):
-    """The runs of a sorted list: first and length."""
+    """Returns the runs of a sorted list, each as first and length."""
     found = []
     for p in members:
         if found and p == sum(found[-1]):
@@ -165,15 +165,15 @@ def runs(members):
 
 
 def gaps(members, top):
-    """The runs below `top` that have no member."""
+    """Returns the runs below `top` that have no member."""
     ends = [0, *(sum(run) for run in runs(members))]
     starts = [*(run[0] for run in runs(members)), top]
     return [(a, b - a) for a, b in zip(ends, starts) if b > a]
 
 
 class Hardware:
-    """The hardware of an image's machine as a dump tells it. Its zones hold as many page frames as the image counts, and all that it
-    lists: where memory has a hole, the largest runs of page frames that aren't listed leave room for it. The tables lie in page frames
+    """The hardware of an image's machine as a dump describes it. Its zones hold as many page frames as the image counts, including all that it
+    lists. If memory has a hole, the largest runs of page frames that aren't listed make room for it. The tables are in page frames
     that aren't listed, where the machine has free ones."""
 
     def __init__(self, image):
@@ -190,7 +190,7 @@ class Hardware:
         frames, slots = -(-top // 1024), -(-self.slots // 1024)
         valid = {p for first, length in self.zones for p in range(first, first + length)}
         room = [gap for gap in gaps(image.listed, top) if set(range(gap[0], gap[0] + frames + slots)) <= valid and gap[1] >= frames + slots]
-        # A run between pages of the image is memory for certain. Low memory is left to the firmware.
+        # A run between pages of the image is certainly memory. Low memory is left to the firmware.
         self.frame_table = next(first for first, length in room if first > 300)
         self.slot_table = self.frame_table + frames
         self.tables = range(self.frame_table, self.slot_table + slots)
@@ -255,7 +255,7 @@ def bad(path, *slots):
 
 
 def pages_of(path):
-    """The pages of a dump of version 1, by their page frames."""
+    """Returns the pages of a dump of version 1, by their page frames."""
     dump = pathlib.Path(path).read_bytes()
     at = 424 + 8 * number(dump, 28, 4)
     count, found = number(dump, at, 4), {}
@@ -273,7 +273,7 @@ def compare(path, dump):
 
 
 def page_of(group, k):
-    """The page that init.c fills as page k of a group."""
+    """Returns the page that init.c fills as page k of a set."""
     words, mask = [], 2**64 - 1
     for i in range(512):
         x = (group << 56) + (k << 16) + i
@@ -304,8 +304,8 @@ def stream(path):
 
 
 def moved(path, by, out=sys.stdout.buffer):
-    """The header, each map and each page, as many blocks further on, and so are the blocks that they name. Before them lies the header of
-    another area without an image, by which an initramfs knows that the device has something on it."""
+    """Writes the header, each map and each page `by` blocks further on, with the blocks that they name moved likewise. Before them comes the
+    header of another area without an image, by which an initramfs knows that the device has something on it."""
     image, by = Image(path), int(by)
     header = image.header[:4064] + struct.pack("<Q", image.first + by) + image.header[4072:]
     maps = {b: struct.pack("<512Q", *(at and at + by for at in numbers(image.block(b)))) for b in image.maps}
@@ -315,7 +315,7 @@ def moved(path, by, out=sys.stdout.buffer):
 
 
 def packed_units(image):
-    """The number pages of a compressed image, under no block's number; and of each unit its blocks where it has few bytes, else its length alone."""
+    """Returns a compressed image's number pages, under no block's number, and each unit: its bytes if they are few, else only its length."""
     parts = [struct.pack("<Q", END) + page for page in image.pages_behind_info()[: image.meta]]
     for at, length, _ in image.units():
         unit = struct.pack("<Q", length) + (image.packed(at, length) if length <= FEW else b"")
@@ -332,9 +332,10 @@ def pack(path):
 
 
 class Damage:
-    """Ways to damage an image, each over a file that is open. Each tells what a kernel then does; what `swsusp resume` is to answer, `resumed N`
-    where it is to find the image whole; and what `swsusp_image check` is to print, by the table of man/swsusp_image.8 (FINDINGS). A kernel
-    overlooks what has no mark, and gives up what it refuses. What is compared with a machine's hardware or kernel alone is whole to `check`."""
+    """Ways to damage an image, each on an open file. Each returns what a kernel then does; what `swsusp resume` must report, which is `resumed N`
+    if it must find the image whole; and what `swsusp_image check` must print, by the table of man/swsusp_image.8 (FINDINGS). A kernel
+    overlooks an image without a mark, and gives up one that it refuses. To `check` an image is whole if it only differs from a machine's hardware
+    or kernel."""
 
     def __init__(self, path):
         self.image = Image(path)
@@ -352,20 +353,20 @@ class Damage:
         self.put(block, at, value.to_bytes(width, "little"))
 
     def entry(self, k, value):
-        """Entry k of the whole chain."""
+        """Sets entry k of the whole chain."""
         self.number(self.image.maps[k // 511], k % 511 * 8, value)
 
     def listed(self, k, value):
         self.number(self.lists[k // 512], k % 512 * 8, value)
 
     def place(self, k):
-        """How `check` tells the place of entry k of the whole chain."""
+        """Returns how `check` names the place of entry k of the whole chain."""
         at = k // 511
         return f"map {at + 1} block {self.image.maps[at]} entry {k % 511}"
 
     @staticmethod
     def word(k):
-        """How it tells that of number k."""
+        """Returns how `check` names the place of number k."""
         return f"numbers page {k // 512 + 1} word {k % 512}"
 
     # The mark.
@@ -378,7 +379,7 @@ class Damage:
         return "overlooks", "no image", ["no image"]
 
     def flags_of_a_compressed_image(self):
-        # The first number page stands where a unit would begin with its length: page frame 0 is none.
+        # The first number page stands where a unit would begin with its length: the first number, page frame 0, is no valid length.
         self.number(0, 4072, 0, 4)
         assert self.image.listed[0] == 0
         return "refuses", "compressed 0", [f"unit 1 {self.place(1)}: length 0"]
@@ -444,7 +445,7 @@ class Damage:
         return "refuses", "mismatch machine", []
 
     def names_that_are_not_compared(self):
-        """Those of the node and of its domain."""
+        """Changes the names of the node and of its domain."""
         self.put(self.infos, 65, b"x")
         self.put(self.infos, 325, b"x")
         return "resumes", self.whole, []
@@ -455,13 +456,13 @@ class Damage:
         return "refuses", f"memory size {own - 1} own {own}", []
 
     def fields_that_are_not_read(self):
-        """The number of processors, and the size in bytes, which no writer leaves so."""
+        """Changes the number of processors and the size in bytes to values that no writer leaves."""
         self.number(self.infos, 408, 7, 4)
         self.number(self.infos, 432, 1)
         return "resumes", self.whole, [f"info page: size 1, but pages {self.image.pages}"]
 
     def counts(self):
-        """One page more than the page frames give. The maps have no block for it."""
+        """Counts one page more than the page frames give. The maps have no block for it."""
         more = self.image.pages + 1
         self.number(self.infos, 424, more)
         told = [f"image pages {self.image.image_pages}, but pages {more}", f"size {self.image.pages * PAGE}, but pages {more}"]
@@ -479,7 +480,7 @@ class Damage:
         return "refuses", f"pfn order {twice} {twice}", [f"{self.word(700)}: {twice} after {twice}"]
 
     def numbers_out_of_order(self):
-        """The kernel sets bits, and takes the pages in the order of the bits: the same image."""
+        """Swaps two numbers. The kernel sets bits, and takes the pages in the order of the bits: the image is the same."""
         a, b = self.image.listed[700:702]
         self.listed(700, b)
         self.listed(701, a)
@@ -496,12 +497,12 @@ def damages():
 
 
 def checked(found):
-    """What `swsusp_image check` prints of these findings: they, and how many they are."""
+    """Returns what `swsusp_image check` prints of these findings: the findings, and how many they are."""
     return "\n".join(found if found == ["no image"] else [*found, f"{len(found)} findings"] if found else ["whole"])
 
 
 def damage(path, *words):
-    """Does one, and prints the answers, parted by bars; or prints the names."""
+    """Does a damage and prints its results, parted by bars; or prints the names of all."""
     if words:
         kernel, answer, found = getattr(Damage(path), words[0])()
         print(kernel, answer, checked(found).replace("\n", ";"), sep="|")
@@ -510,7 +511,7 @@ def damage(path, *words):
 
 
 def cases(path):
-    """Each damage that a kernel refuses, for one boot: a page with its name, the number of blocks and the blocks, and then these blocks'
+    """Writes each damage that a kernel refuses, for one boot: a page with its name, the number of blocks and the blocks; then these blocks'
     damaged pages, and the pages as they were."""
     image, out = Image(path), sys.stdout.buffer
     before = {b: image.block(b) for b in image.own_blocks()}
@@ -529,7 +530,7 @@ def cases(path):
                 continue
             pages = copy.open("rb")
             after = {b: (pages.seek(b * PAGE), pages.read(PAGE))[1] for b in before}
-            # The kernel takes the mark back before it refuses an image, so the header is always written anew.
+            # The kernel clears the mark before it refuses an image, so the header is always written anew.
             changed = [b for b in before if b == 0 or after[b] != before[b]]
             head = key.encode().ljust(64, b"\0") + struct.pack(f"<{1 + len(changed)}Q", len(changed), *changed)
             out.write(head.ljust(PAGE, b"\0") + b"".join(after[b] for b in changed) + b"".join(before[b] for b in changed))

@@ -1,23 +1,24 @@
 /*
- * The one program of the lab's initramfs, process 1 of the machine. The kernel's command line tells it what to do:
+ * The only program of the lab's initramfs, process 1 of the machine. The kernel's command line says what it does:
  *
  *   lab.mode=hibernate  fills pages, swaps to the disk, lets some pages out, and hibernates. When the machine is resumed it goes on
- *                       after that, looks at the pages again, and prints the word that this boot was handed.
- *   lab.mode=resume     asks the kernel to resume the disk's image. Where the kernel refuses, it says so.
- *   lab.mode=cases      does that over and over, each time with other blocks of the disk damaged, as a third disk tells: of each case a
- *                       page with its name (64 bytes), the number of blocks and the blocks (8 bytes each), then the damaged pages, then
- *                       the pages as they were, which are written back: the header block is always among them. A page of zeros ends the list.
+ *                       from there, looks at the pages again, and prints the word that this boot was handed.
+ *   lab.mode=resume     asks the kernel to resume the disk's image. If the kernel refuses, it says so.
+ *   lab.mode=cases      does that again and again, each time with other blocks of the disk damaged, as a third disk says. That disk has
+ *                       for each case a page with its name (64 bytes), the number of blocks and the blocks (8 bytes each), then the
+ *                       damaged pages, then the pages as they were, which are written back: the header block is always among them.
+ *                       A page of zeros ends the list.
  *   lab.mode=swap       asks the kernel to swap to the disk, and says whether it does.
  *
  *   lab.disk=NAME       the disk with the swap area, by its name in /dev
  *   lab.word=NAME       the disk with the word: 16 bytes, read past the page cache, since a resumed machine's cache is an old one
  *   lab.cases=NAME      the disk with the cases
  *   lab.pages=N         how many pages get a pattern and stay in memory
- *   lab.fill=N          how many pages more are used, to bring the image to a certain size
+ *   lab.fill=N          how many further pages are used, to bring the image to a certain size
  *   lab.used=N          how many pages get a pattern and are let out to the swap area
- *   lab.sig=N           the machine's hardware signature, which only firmware with ACPI has. It is put where lab.sigat=ADDRESS says,
+ *   lab.sig=N           the machine's hardware signature, which only firmware with ACPI has. It is written at lab.sigat=ADDRESS,
  *                       the physical address of the kernel's swsusp_hardware_signature
- *   lab.power=WORD      how the machine is switched off after the image, for /sys/power/disk ("shutdown" without it)
+ *   lab.power=WORD      how the machine is switched off after the image, for /sys/power/disk ("shutdown" by default)
  *
  * Each line that it prints begins with "lab: ". It ends by switching the machine off.
  */
@@ -42,7 +43,7 @@
 
 static char line[4096];
 
-/* The value of a setting of the kernel's command line, or what stands in for it. */
+/* Returns the value of a setting of the kernel's command line, or `without` if it isn't set. */
 static const char *setting(const char *name, const char *without)
 {
     static char values[16][64];
@@ -100,7 +101,7 @@ static int put(const char *file, const char *text)
     return written < 0 ? -1 : 0;
 }
 
-/* The modules that the initramfs has, in the order of their names. */
+/* Loads the modules that the initramfs has, in the order of their names. */
 static void load_modules(void)
 {
     for (int k = 0; k < 100; k++) {
@@ -117,7 +118,7 @@ static void load_modules(void)
     }
 }
 
-/* The words of page k of a set, mixed so that no two pages, and no two words of a page, are alike. */
+/* Returns word i of page k of a set, mixed so that no two pages, and no two words of a page, are alike. */
 static uint64_t word_of(unsigned set, unsigned long k, unsigned long i)
 {
     uint64_t x = ((uint64_t)set << 56) + ((uint64_t)k << 16) + i;
@@ -153,7 +154,7 @@ static unsigned long good(unsigned set, const uint64_t *at, unsigned long pages)
     return count;
 }
 
-/* What the kernel's page table says of page k: bit 63 where it is in a page frame, bit 62 where it is in a slot. */
+/* Returns what the kernel's page table says of page k: bit 63 if it is in a page frame, bit 62 if it is in a slot. */
 static uint64_t entry_of(const uint64_t *at, unsigned long k)
 {
     int fd = open("/proc/self/pagemap", O_RDONLY);
@@ -165,7 +166,7 @@ static uint64_t entry_of(const uint64_t *at, unsigned long k)
     return entry;
 }
 
-/* Prints in which page frames or slots the pages are, a run a line: "lab: frames SET FIRST PLACE COUNT". */
+/* Prints in which page frames or slots the pages are, one run per line: "lab: frames SET FIRST PLACE COUNT". */
 static unsigned long tell(unsigned set, const uint64_t *at, unsigned long pages, int swapped)
 {
     unsigned long found = 0, first = 0, count = 0;
@@ -228,7 +229,7 @@ static void hibernate(const char *disk)
     fill(3, more);
     if (swapon(disk, 0))
         fail("swapon");
-    /* The kernel lets out what it can get at once; pages that are still on their way are asked for again. */
+    /* The kernel lets out what it can at once; it is asked again for pages that are still on their way. */
     for (int k = 0; k < 50 && out < used; k++) {
         madvise(let, used * PAGE, MADV_PAGEOUT);
         usleep(100000);
@@ -258,7 +259,7 @@ static int disk_of(const char *name, int flags)
     int fd;
 
     snprintf(file, sizeof file, "/dev/%s", name);
-    /* Past the page cache, as the kernel's own code for hibernation goes. */
+    /* Past the page cache, as the kernel's own hibernation code does. */
     fd = open(file, flags | O_DIRECT);
     if (fd < 0)
         fail(file);
@@ -272,7 +273,7 @@ static void ask(const char *device)
     put("/sys/power/resume", device);
 }
 
-/* Copies a case's pages, from where they stand on its disk to their blocks. */
+/* Copies a case's pages from their place on its disk to their blocks. */
 static void lay(int from, off_t at, int to, const uint64_t *blocks, uint64_t count, void *page)
 {
     for (uint64_t k = 0; k < count; k++)
@@ -304,7 +305,7 @@ static void try_cases(const char *disk, const char *device)
         before = marked(to, page);
         ask(device);
         after = marked(to, page);
-        /* A kernel that finds an image takes its mark back before it reads on. */
+        /* A kernel that finds an image clears its mark before it reads on. */
         printf("lab: %s, case %.63s\n", after ? "left alone" : before ? "refused" : "overlooked", (char *)head);
         lay(from, at + PAGE + count * PAGE, to, head + 9, count, page);
         at += PAGE + 2 * count * PAGE;

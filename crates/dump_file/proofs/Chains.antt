@@ -1,5 +1,5 @@
 -- The first of several faults.
-use Rattle.std.proofs.Common.{◌≡◌, ℕ, zero, suc, ◌+◌, ◌<◌, ◌≤◌, Bool, true, false, List, length, map, Option, Some, None, Result, Ok, Err, refl, sym, ap, ◌∙◌, inl, inr, arith}
+use Rattle.std.proofs.Common.{◌≡◌, ℕ, zero, suc, ◌+◌, ◌<◌, ◌≤◌, Bool, true, false, List, ◌∷◌, length, map, Option, Some, None, Result, Ok, Err, refl, sym, ap, ap₂, ◌∙◌, inl, inr, arith}
 use Rattle.std.proofs.lemmas.Bool.{le-leb, cases_lt}
 use Rattle.std.proofs.lemmas.Bool.Decides.{leb_tells}
 use Rattle.std.proofs.lemmas.Option.{none-some}
@@ -90,6 +90,29 @@ first-at f a (suc n) i x from below h at =
       | inr ge ↦
           let same : a ≡ i = omega (arith, ge, from) in
           or_else-some (f a) (first_some (map f (range_with_len (a + 1) n))) x (ap f same ∙ at)
+    ]
+
+pub map-same : {A : Type 0} (f g : ℕ → A) (a n : ℕ) → ((j : ℕ) → a ≤ j → j < a + n → f j ≡ g j) → map f (range_with_len a n) ≡ map g (range_with_len a n)
+map-same f g a zero h = refl
+map-same f g a (suc n) h =
+    ap₂ (λ x xs. x ∷ xs) (h a (omega arith) (omega arith)) (map-same f g (a + 1) n (λ j from lt. h j (omega (arith, from)) (omega (arith, lt))))
+
+-- Chains of three, and chains that end in nothing.
+
+pub or_else-end : {A : Type 0} (a : Option A) → or_else a None ≡ a
+or_else-end None = refl
+or_else-end (Some x) = refl
+
+pub or_else-more : {A : Type 0} (a b c : Option A) → or_else (or_else a b) c ≡ or_else a (or_else b c)
+or_else-more None b c = refl
+or_else-more (Some x) b c = refl
+
+-- where a few bytes are missing, so are more
+pub wanted-more : (bytes : List ℕ) (n m : ℕ) (f : DumpFault) → n ≤ m → wanted bytes n ≡ Some f → wanted bytes m ≡ Some f
+wanted-more bytes n m f le e =
+    elim (leb_tells n (length bytes)) [
+      | inl there ↦ absurd (none-some f (sym (wanted-there bytes n there.1) ∙ e))
+      | inr few ↦ let less = few.1 in wanted-short bytes m (omega (arith, less, le)) ∙ sym (wanted-short bytes n (omega (arith, less))) ∙ e
     ]
 
 -- nothing is wrong in a chain, so nothing is in its parts

@@ -7,7 +7,6 @@ use Rattle.definitions.specs.Slots.{extent_at, slots_before, slots_of}
 use Rattle.definitions.specs.FileMaps.{LieApart, IsExtentFault, IsFileMap, IsInOrder}
 use Rattle.machine.specs.HardFault.{each_below, is_extent, lie_apart}
 use Rattle.machine.proofs.ListTests.{Decides-below, Decides-leb}
-use Rattle.dump_file.specs.Reading.{IsFirstNot}
 
 decides_apart : (e f : ℕ × ℕ × ℕ) → Decides (lie_apart e f) (LieApart e f)
 decides_apart e f = Decides-or (leb (e.2 + e.1) f.2) (leb (f.2 + f.1) e.2) (Decides-leb (e.2 + e.1) f.2) (Decides-leb (f.2 + f.1) e.2)
@@ -56,13 +55,9 @@ pub map_in_order : (extents : List (ℕ × ℕ × ℕ)) (slots : ℕ) → IsFile
 map_in_order extents slots h i lt = (decides_order extents i).1 (h.each i lt)
 
 -- what a fault of extents means, if there is at least one and at most 64 are there
-pub fault_within : (extents : List (ℕ × ℕ × ℕ)) (slots at : ℕ) → length extents ≤ 64 → at < length extents → IsExtentFault extents slots at → IsFirstNot (is_extent extents) (length extents) at
+pub fault_within : (extents : List (ℕ × ℕ × ℕ)) (slots at : ℕ) → length extents ≤ 64 → at < length extents → IsExtentFault extents slots at → is_extent extents at ≡ false
 fault_within extents slots at few lt (inl h) = absurd (⊎_elim (λ none. omega (arith, none, lt)) (λ many. omega (arith, many, few)) h.0)
-fault_within extents slots at few lt (inr (inl h)) = record {
-  within = lt;
-  not_there = order_false extents at h.3;
-  before = λ j j_lt. (decides_order extents j).1 (h.2 j j_lt);
-}
+fault_within extents slots at few lt (inr (inl h)) = order_false extents at h.3
 fault_within extents slots at few lt (inr (inr h)) = absurd (omega (arith, h.1, lt))
 
 pub fault_behind : (extents : List (ℕ × ℕ × ℕ)) (slots at : ℕ) → length extents ≤ 64 → length extents ≤ at → IsExtentFault extents slots at → (j : ℕ) → j < length extents → is_extent extents j ≡ true

@@ -1,22 +1,29 @@
--- The extents of a dump of version 2, of which some may not be there.
-use Rattle.std.proofs.Common.{◌≡◌, ℕ, ◌+◌, ◌-◌, ◌*◌, ◌<◌, ◌≤◌, zero, suc, Bool, true, false, eqb, List, [], ◌∷◌, cond, length, map, take, Some, refl, sym, ap, ◌∙◌, subst, inl, inr, arith}
-use Rattle.std.proofs.lemmas.Bool.{cases_Bool}
+-- The extents of a dump of version 2, of which the first n were read.
+use Rattle.std.proofs.Common.{◌≡◌, ℕ, ◌+◌, ◌-◌, ◌*◌, ◌<◌, ◌≤◌, zero, suc, Bool, true, false, eqb, ◌&&◌, List, [], ◌∷◌, cond, length, map, Some, None, refl, sym, ap, ap₂, ◌∙◌, subst, inl, inr, arith}
+use Rattle.std.proofs.lemmas.Bool.{cases_Bool, cases_lt}
 use Rattle.std.proofs.lemmas.List.FromFn.{get_or-map-range_with_len, length-map-range_with_len}
 use Rattle.std.specs.List.{range_with_len}
 use Rattle.definitions.specs.Slots.{extent_end, slots_before, slots_of}
 use Rattle.definitions.specs.FileMaps.{IsInOrder, LieApart}
 use Rattle.definitions.specs.Slots as slot
 use Rattle.machine.specs.HardFault.{is_extent}
-use Rattle.dump_file.specs.Dump.{cover_fault, extents_fault, unless, wanted}
-use Rattle.dump_file.specs.Fields.{extent_at, extent_byte, extent_count, extents, first_extent, is_second, slots}
-use Rattle.dump_file.specs.Reading.{IsFirstNot}
+use Rattle.dump_file.specs.Dump.{cover_fault, extent_count_fault, extent_fault, extents_fault, map_fault, offset_fault, unless, wanted}
+use Rattle.dump_file.specs.Fields.{extent_at, extent_byte, extent_count, extents, first_extent, is_second, map_byte, number, slots}
+use Rattle.dump_file.specs.Reading.{HasExtents, HasMap}
+use Rattle.dump_file.specs.declared.dump.DumpFault.{DumpFault}
 use Rattle.dump_file.specs.declared.dump.DumpKind.TheVariants.{Extent}
+use Rattle.std.specs.Prelude.{nat_le}
+use Rattle.plain_machine.specs.Chain.{or_else}
+use Rattle.dump_file.proofs.Chains.{or_else-more, or_else-none, or_else-some, unless-false, unless-true}
 use Rattle.dump_file.proofs.ExtentFaults.{decides_order}
-use Rattle.dump_file.proofs.Items.{items_rest, items_wrong}
+use Rattle.dump_file.proofs.Items.{item_right, items_right, items_short, items_wrong}
 
 -- the extents of a dump of version 2
 pub extents_are : (bytes : List ℕ) → is_second bytes ≡ true → extents bytes ≡ map (extent_at bytes (first_extent bytes)) (range_with_len 0 (extent_count bytes))
 extents_are bytes e = ap (λ (b : Bool). cond b (map (extent_at bytes (first_extent bytes)) (range_with_len 0 (extent_count bytes))) ((0, slots bytes, 0) ∷ [])) e
+
+pub extents_first : (bytes : List ℕ) → is_second bytes ≡ false → extents bytes ≡ ((0, slots bytes, 0) ∷ [])
+extents_first bytes e = ap (λ (b : Bool). cond b (map (extent_at bytes (first_extent bytes)) (range_with_len 0 (extent_count bytes))) ((0, slots bytes, 0) ∷ [])) e
 
 front_extent : (bytes : List ℕ) (first n j : ℕ) → j < n → slot.extent_at (map (extent_at bytes first) (range_with_len 0 n)) j ≡ extent_at bytes first j
 front_extent bytes first n j lt = let place : 0 + j ≡ j = omega arith in get_or-map-range_with_len (extent_at bytes first) 0 n j j (0, 0, 0) lt place
@@ -54,39 +61,97 @@ front_test bytes list there i second is few lt =
     ∙ test_same front all i (λ k le. front_extent bytes first there k (omega (arith, le, lt)) ∙ sym (front_extent bytes first (extent_count bytes) k (omega (arith, le, lt, few))))
     ∙ ap (λ (xs : List (ℕ × ℕ × ℕ)). is_extent xs i) (sym (extents_are bytes second))
 
-grows : (bytes : List ℕ) (i j : ℕ) → i ≤ j → extent_byte bytes i ≤ extent_byte bytes j
-grows bytes i j le = omega (arith, le)
+-- The extents that were read, where each was found to be in order.
 
-pub wrong_extent_is : (bytes : List ℕ) (list : List (ℕ × ℕ × ℕ)) (there at : ℕ) → is_second bytes ≡ true → list ≡ map (extent_at bytes (first_extent bytes)) (range_with_len 0 there) → there ≤ extent_count bytes → extent_byte bytes there ≤ length bytes → IsFirstNot (is_extent list) (length list) at → extents_fault bytes ≡ Some (record { kind = Extent; at = extent_byte bytes at })
-wrong_extent_is bytes list there at second is few in' first =
-    let size : length list ≡ there = ap length is ∙ length-map-range_with_len (extent_at bytes (first_extent bytes)) 0 there in
-    let within : at < there = omega (arith, first.within, size) in
-    items_wrong bytes (extent_byte bytes) (is_extent (extents bytes)) Extent (extent_count bytes) there at (grows bytes) few in'
-    (record {
-      within = within;
-      not_there = sym (front_test bytes list there at second is few within) ∙ first.not_there;
-      before = λ j lt. sym (front_test bytes list there j second is few (omega (arith, lt, within))) ∙ first.before j lt;
-    })
+as_front : (bytes : List ℕ) (first len n : ℕ) (list : List (ℕ × ℕ × ℕ)) → HasExtents bytes first len → list ≡ map (extent_at bytes first) (range_with_len 0 n) → list ≡ map (extent_at bytes (first_extent bytes)) (range_with_len 0 n)
+as_front bytes first len n list h is = is ∙ ap (λ (k : ℕ). map (extent_at bytes k) (range_with_len 0 n)) h.first_is
 
-pub rest_of_extents : (bytes : List ℕ) (list : List (ℕ × ℕ × ℕ)) (there : ℕ) → is_second bytes ≡ true → list ≡ map (extent_at bytes (first_extent bytes)) (range_with_len 0 there) → there ≤ extent_count bytes → extent_byte bytes there ≤ length bytes → (there < extent_count bytes → length bytes < extent_byte bytes (there + 1)) → ((j : ℕ) → j < length list → is_extent list j ≡ true) → extents_fault bytes ≡ wanted bytes (extent_byte bytes (extent_count bytes))
-rest_of_extents bytes list there second is few in' most right =
-    let size : length list ≡ there = ap length is ∙ length-map-range_with_len (extent_at bytes (first_extent bytes)) 0 there in
-    items_rest bytes (extent_byte bytes) (is_extent (extents bytes)) Extent (extent_count bytes) there (grows bytes) few in' most
-    (λ j lt. sym (front_test bytes list there j second is few lt) ∙ right j (omega (arith, lt, size)))
+extent_right : (bytes : List ℕ) (first len n i : ℕ) (list : List (ℕ × ℕ × ℕ)) → HasExtents bytes first len → list ≡ map (extent_at bytes first) (range_with_len 0 n) → n ≤ len → first + 12 * n ≤ length bytes → ((j : ℕ) → j < n → is_extent list j ≡ true) → i < n → extent_fault bytes i ≡ None
+extent_right bytes first len n i list h is few there each lt =
+    item_right bytes (extent_byte bytes) (is_extent (extents bytes)) Extent i (omega (arith, h.first_is, there, lt))
+    (sym (front_test bytes list n i h.second (as_front bytes first len n list h is) (omega (arith, few, h.len_is)) lt) ∙ each i lt)
 
--- all extents are there
-pub whole_list : (bytes : List ℕ) (list : List (ℕ × ℕ × ℕ)) (first there len : ℕ) → is_second bytes ≡ true → first ≡ first_extent bytes → len ≡ extent_count bytes → there ≡ len → take there list ≡ map (extent_at bytes first) (range_with_len 0 there) → take len list ≡ extents bytes
-whole_list bytes list first there len second first_is len_is all is =
-    ap (λ (n : ℕ). take n list) (sym all) ∙ is
-    ∙ ap (λ (k : ℕ). map (extent_at bytes k) (range_with_len 0 there)) first_is
-    ∙ ap (λ (n : ℕ). map (extent_at bytes (first_extent bytes)) (range_with_len 0 n)) (all ∙ len_is)
-    ∙ sym (extents_are bytes second)
+pub extent_short : (bytes : List ℕ) (first len n : ℕ) (list : List (ℕ × ℕ × ℕ)) (f : DumpFault) → HasExtents bytes first len → list ≡ map (extent_at bytes first) (range_with_len 0 n) → n < len → first + 12 * n ≤ length bytes → ((j : ℕ) → j < n → is_extent list j ≡ true) → wanted bytes (first + 12 * n + 12) ≡ Some f → extents_fault bytes ≡ Some f
+extent_short bytes first len n list f h is less there each short =
+    let place : extent_byte bytes (n + 1) ≡ first + 12 * n + 12 = omega (arith, h.first_is) in
+    items_short bytes (extent_byte bytes) (is_extent (extents bytes)) Extent (extent_count bytes) n f (omega (arith, less, h.len_is))
+    (λ i lt. extent_right bytes first len n i list h is (omega (arith, less)) there each lt) (ap (wanted bytes) place ∙ short)
 
-pub front_list : (bytes : List ℕ) (list : List (ℕ × ℕ × ℕ)) (first there : ℕ) → first ≡ first_extent bytes → take there list ≡ map (extent_at bytes first) (range_with_len 0 there) → take there list ≡ map (extent_at bytes (first_extent bytes)) (range_with_len 0 there)
-front_list bytes list first there first_is is = is ∙ ap (λ (k : ℕ). map (extent_at bytes k) (range_with_len 0 there)) first_is
+pub extent_wrong : (bytes : List ℕ) (first len n : ℕ) (before list : List (ℕ × ℕ × ℕ)) → HasExtents bytes first len → before ≡ map (extent_at bytes first) (range_with_len 0 n) → list ≡ map (extent_at bytes first) (range_with_len 0 (n + 1)) → n < len → first + 12 * n + 12 ≤ length bytes → ((j : ℕ) → j < n → is_extent before j ≡ true) → (((j : ℕ) → j < length list → is_extent list j ≡ true) → ⊥) → extents_fault bytes ≡ Some (record { kind = Extent; at = first + 12 * n })
+extent_wrong bytes first len n before list h before_is is less there each never =
+    let size : length list ≡ n + 1 = ap length is ∙ length-map-range_with_len (extent_at bytes first) 0 (n + 1) in
+    let early : (j : ℕ) → j < n → is_extent (extents bytes) j ≡ true =
+    λ j lt. sym (front_test bytes before n j h.second (as_front bytes first len n before h before_is) (omega (arith, less, h.len_is)) lt) ∙ each j lt in
+    let all : is_extent (extents bytes) n ≡ true → (j : ℕ) → j < length list → is_extent list j ≡ true =
+    λ last j lt.
+    front_test bytes list (n + 1) j h.second (as_front bytes first len (n + 1) list h is) (omega (arith, less, h.len_is)) (omega (arith, lt, size))
+    ∙ elim (cases_lt j n) [
+      | inl below ↦ early j below
+      | inr ge ↦ let same : n ≡ j = omega (arith, ge, lt, size) in subst (λ (k : ℕ). is_extent (extents bytes) k ≡ true) same last
+    ] in
+    let wrong : is_extent (extents bytes) n ≡ false =
+    elim (cases_Bool (is_extent (extents bytes) n)) [ inl last ↦ absurd (never (all last)) | inr last ↦ last ] in
+    let place : extent_byte bytes n ≡ first + 12 * n = omega (arith, h.first_is) in
+    items_wrong bytes (extent_byte bytes) (is_extent (extents bytes)) Extent (extent_count bytes) n (omega (arith, less, h.len_is))
+    (λ i lt. extent_right bytes first len n i before h before_is (omega (arith, less)) (omega (arith, there)) each lt)
+    (omega (arith, there, h.first_is)) wrong
+    ∙ ap (λ (k : ℕ). Some (record { kind = Extent; at = k })) place
 
-pub cover_is : (bytes : List ℕ) (list : List (ℕ × ℕ × ℕ)) (first len s : ℕ) (b : Bool) → list ≡ extents bytes → first ≡ first_extent bytes → len ≡ extent_count bytes → s ≡ slots bytes → b ≡ eqb (slots_of list) s → unless b Extent (first + 12 * (len - 1)) ≡ cover_fault bytes
-cover_is bytes list first len s b list_is first_is len_is slots_is b_is =
-    ap (λ (test : Bool). unless test Extent (first + 12 * (len - 1))) (b_is ∙ ap (λ (xs : List (ℕ × ℕ × ℕ)). eqb (slots_of xs) s) list_is ∙ ap (eqb (slots_of (extents bytes))) slots_is)
-    ∙ ap (λ (k : ℕ). unless (eqb (slots_of (extents bytes)) (slots bytes)) Extent (k + 12 * (len - 1))) first_is
-    ∙ ap (λ (n : ℕ). unless (eqb (slots_of (extents bytes)) (slots bytes)) Extent (extent_byte bytes (n - 1))) len_is
+pub extents_right : (bytes : List ℕ) (first len n : ℕ) (list : List (ℕ × ℕ × ℕ)) → HasExtents bytes first len → list ≡ map (extent_at bytes first) (range_with_len 0 n) → n ≡ len → first + 12 * n ≤ length bytes → ((j : ℕ) → j < n → is_extent list j ≡ true) → extents_fault bytes ≡ None
+extents_right bytes first len n list h is all there each =
+    items_right bytes (extent_byte bytes) (is_extent (extents bytes)) Extent (extent_count bytes)
+    (λ i lt. extent_right bytes first len n i list h is (omega (arith, all)) there each (omega (arith, lt, all, h.len_is)))
+
+-- all were read
+pub whole_list : (bytes : List ℕ) (first len n : ℕ) (list : List (ℕ × ℕ × ℕ)) → HasExtents bytes first len → n ≡ len → list ≡ map (extent_at bytes first) (range_with_len 0 n) → list ≡ extents bytes
+whole_list bytes first len n list h all is =
+    as_front bytes first len n list h is
+    ∙ ap (λ (k : ℕ). map (extent_at bytes (first_extent bytes)) (range_with_len 0 k)) (all ∙ h.len_is)
+    ∙ sym (extents_are bytes h.second)
+
+-- The file map, by what was read of it.
+
+pub map_extents : (bytes : List ℕ) (m s len : ℕ) → HasMap bytes m s → len ≡ number bytes (m + 4) → HasExtents bytes (m + 8) len
+map_extents bytes m s len h len_is = record {
+  second = h.second;
+  first_is = ap (λ (k : ℕ). k + 8) h.map_is;
+  len_is = len_is ∙ ap (λ (k : ℕ). number bytes (k + 4)) h.map_is;
+}
+
+map_there : (bytes : List ℕ) (m s : ℕ) → HasMap bytes m s → wanted bytes (m + 8) ≡ None → wanted bytes (map_byte bytes + 8) ≡ None
+map_there bytes m s h none = ap (λ (k : ℕ). wanted bytes (k + 8)) (sym h.map_is) ∙ none
+
+count_test : (bytes : List ℕ) (m s len : ℕ) → HasMap bytes m s → len ≡ number bytes (m + 4) → extent_count_fault bytes ≡ unless (nat_le 1 len && nat_le len 64) Extent (m + 4)
+count_test bytes m s len h len_is =
+    ap₂ (λ (n k : ℕ). unless (nat_le 1 n && nat_le n 64) Extent (k + 4)) (ap (λ (k : ℕ). number bytes (k + 4)) (sym h.map_is) ∙ sym len_is) (sym h.map_is)
+
+pub map_short : (bytes : List ℕ) (m s : ℕ) (f : DumpFault) → HasMap bytes m s → wanted bytes (m + 8) ≡ Some f → map_fault bytes ≡ Some f
+unfolding map_fault
+map_short bytes m s f h short = or_else-some (wanted bytes (map_byte bytes + 8)) _ f (ap (λ (k : ℕ). wanted bytes (k + 8)) (sym h.map_is) ∙ short)
+
+pub map_count : (bytes : List ℕ) (m s len : ℕ) → HasMap bytes m s → len ≡ number bytes (m + 4) → wanted bytes (m + 8) ≡ None → (nat_le 1 len && nat_le len 64) ≡ false → map_fault bytes ≡ Some (record { kind = Extent; at = m + 4 })
+unfolding map_fault
+map_count bytes m s len h len_is there wrong =
+    or_else-none (wanted bytes (map_byte bytes + 8)) _ (map_there bytes m s h there)
+    ∙ or_else-some (extent_count_fault bytes) _ (record { kind = Extent; at = m + 4 }) (count_test bytes m s len h len_is ∙ unless-false _ Extent (m + 4) wrong)
+
+-- the number of extents is right
+pub map_list : (bytes : List ℕ) (m s len : ℕ) → HasMap bytes m s → len ≡ number bytes (m + 4) → wanted bytes (m + 8) ≡ None → (nat_le 1 len && nat_le len 64) ≡ true → map_fault bytes ≡ or_else (extents_fault bytes) (or_else (cover_fault bytes) (offset_fault bytes))
+unfolding map_fault
+map_list bytes m s len h len_is there right =
+    or_else-none (wanted bytes (map_byte bytes + 8)) _ (map_there bytes m s h there)
+    ∙ or_else-none (extent_count_fault bytes) _ (count_test bytes m s len h len_is ∙ unless-true _ Extent (m + 4) right)
+    ∙ or_else-more (extents_fault bytes) (cover_fault bytes) (offset_fault bytes)
+
+pub cover_is : (bytes : List ℕ) (list : List (ℕ × ℕ × ℕ)) (m s len at : ℕ) (b : Bool) → HasMap bytes m s → len ≡ number bytes (m + 4) → list ≡ extents bytes → b ≡ eqb (slots_of list) s → at ≡ m + 8 + 12 * (len - 1) → cover_fault bytes ≡ unless b Extent at
+cover_is bytes list m s len at b h len_is list_is b_is at_is =
+    let place : extent_byte bytes (extent_count bytes - 1) ≡ at =
+    ap₂ (λ (k n : ℕ). k + 8 + 12 * (n - 1)) (sym h.map_is) (ap (λ (k : ℕ). number bytes (k + 4)) (sym h.map_is) ∙ sym len_is) ∙ sym at_is in
+    let test : eqb (slots_of (extents bytes)) (slots bytes) ≡ b = ap₂ (λ (xs : List (ℕ × ℕ × ℕ)) (n : ℕ). eqb (slots_of xs) n) (sym list_is) (sym h.slots_are) ∙ sym b_is in
+    ap₂ (λ (t : Bool) (k : ℕ). unless t Extent k) test place
+
+pub offset_is : (bytes : List ℕ) (list : List (ℕ × ℕ × ℕ)) (m s n : ℕ) → HasMap bytes m s → n ≡ number bytes m → list ≡ extents bytes → offset_fault bytes ≡ unless (eqb n (slot.extent_at list 0).2) Extent m
+offset_is bytes list m s n h n_is list_is =
+    let number_is : number bytes (map_byte bytes) ≡ n = ap (number bytes) (sym h.map_is) ∙ sym n_is in
+    ap₂ (λ (k : ℕ) (xs : List (ℕ × ℕ × ℕ)). unless (eqb k (slot.extent_at xs 0).2) Extent (map_byte bytes)) number_is (sym list_is)
+    ∙ ap (unless (eqb n (slot.extent_at list 0).2) Extent) (sym h.map_is)

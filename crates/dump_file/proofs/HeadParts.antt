@@ -15,6 +15,8 @@ use Rattle.plain_machine.specs.Chain.{or_else}
 use Rattle.plain_machine.specs.Machine.{Hardware}
 use Rattle.dump_file.specs.Dump.{count_fault, front_fault, head_fault, layout_fault, unless, wanted, zones_fault}
 use Rattle.dump_file.specs.Fields.{count_byte, extents, hardware, ident, number, record_count, slots, zones}
+use Rattle.dump_file.specs.Reading.{hardware_by}
+use Rattle.dump_file.specs.declared.front.Front.{Front}
 use Rattle.dump_file.specs.declared.dump.DumpKind.TheVariants.{Frame, Header}
 use Rattle.dump_file.proofs.Chains.{or_else-none}
 
@@ -41,9 +43,8 @@ pub record IsBut (h : Hardware) : Type 0 where
   pub none : h.regions ≡ []
   pub map : IsFileMap h.extents h.slots
 
-pub but_tables : (bytes : List ℕ) → AreZones (zones bytes) → 2 ≤ slots bytes → slots bytes ≤ 131072 → IsFileMap (extents bytes) (slots bytes) → IsBut (hardware bytes)
-unfolding hardware
-but_tables bytes z some few map = record { zones_are = z; some = some; few = few; none = refl; map = map }
+pub but_tables : (front : Front) (zs : List (ℕ × ℕ)) (es : List (ℕ × ℕ × ℕ)) → AreZones zs → (2 ≤ front.slots) × (front.slots ≤ 131072) → IsFileMap es front.slots → IsBut (hardware_by front zs es)
+but_tables front zs es z bounds map = record { zones_are = z; some = bounds.0; few = bounds.1; none = refl; map = map }
 
 no_regions : (h : Hardware) → IsBut h → has_regions h ≡ true
 no_regions h but =
@@ -68,17 +69,3 @@ unfolding head_fault count_fault
 last_fault bytes a b c d e =
     or_else-none (front_fault bytes) _ a ∙ or_else-none (zones_fault bytes) _ b ∙ or_else-none (layout_fault bytes) _ c
     ∙ or_else-none (unless (has_tables (hardware bytes)) Header 16) _ d ∙ or_else-none (wanted bytes (count_byte bytes + 4)) _ e
-
--- the test of the number of records
-pub count_is : (bytes : List ℕ) (hw : Hardware) (zs : List (ℕ × ℕ)) (end count valid : ℕ) → hw ≡ hardware bytes → zs ≡ hw.zones → end ≡ count_byte bytes → count ≡ number bytes end → valid ≡ length (numbers zs) → unless (leb count valid) Frame end ≡ unless (leb (record_count bytes) (length (numbers (zones bytes)))) Frame (count_byte bytes)
-unfolding hardware
-count_is bytes hw zs end count valid hw_is zs_is end_is n_is valid_is =
-    let all : zs ≡ zones bytes = zs_is ∙ ap (λ (h : Hardware). h.zones) hw_is in
-    ap (λ (n : ℕ). unless (leb n valid) Frame end) (n_is ∙ ap (number bytes) end_is)
-    ∙ ap (λ (n : ℕ). unless (leb (record_count bytes) n) Frame end) (valid_is ∙ ap (λ (x : List (ℕ × ℕ)). length (numbers x)) all)
-    ∙ ap (unless (leb (record_count bytes) (length (numbers (zones bytes)))) Frame) end_is
-
--- a dump has no regions
-pub no_region : (bytes : List ℕ) → (hardware bytes).regions ≡ []
-unfolding hardware
-no_region bytes = refl

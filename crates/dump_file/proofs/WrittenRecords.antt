@@ -25,8 +25,7 @@ use Rattle.dump_file.specs.Dump.{frame_before, is_above, record_fault, records_f
 use Rattle.dump_file.specs.Fields.{content, contents, page_of, record_byte, record_frame, record_page}
 use Rattle.dump_file.specs.ReadBack.{carried_frame, carried_memory}
 use Rattle.dump_file.specs.Written.{nonzero, number_bytes, record_bytes, records_bytes}
-use Rattle.dump_file.proofs.Chains.{first-none, wanted-there}
-use Rattle.dump_file.proofs.Fronts.{map-same}
+use Rattle.dump_file.proofs.Chains.{first-none, map-same, wanted-there}
 use Rattle.dump_file.proofs.Numbers.{length-number_bytes}
 use Rattle.dump_file.proofs.Places.{bytes_stand, first_stands, length-pieces, number_stands, piece_stands, second_stands, StandsAt}
 use Rattle.dump_file.proofs.RecordFaults.{no_fault}

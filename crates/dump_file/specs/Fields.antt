@@ -40,7 +40,7 @@ zone bytes j = (number bytes (zone_byte j), number bytes (zone_byte j + 4))
 abbrev pub zones : List ℕ → List (ℕ × ℕ)
 zones bytes = map (zone bytes) (range_with_len 0 (zone_count bytes))
 
--- Behind the zones, in version 2 alone: the resume offset, the number of extents, and the extents, 12 bytes each: start
+-- After the zones, only in version 2: the resume offset, the number of extents, and the extents, 12 bytes each: start
 -- page, length, start block.
 abbrev pub map_byte : List ℕ → ℕ
 map_byte bytes = zone_byte (zone_count bytes)
@@ -59,7 +59,7 @@ abbrev pub extent_at : List ℕ → ℕ → ℕ → ℕ × ℕ × ℕ
 extent_at bytes first i =
     (number bytes (first + 12 * i), number bytes (first + 12 * i + 4), number bytes (first + 12 * i + 8))
 
--- version 1 is read as the one extent that lays each slot on the block of its number
+-- version 1 is read as if it had one extent, which lays each slot on the block of its number
 abbrev pub extents : List ℕ → List (ℕ × ℕ × ℕ)
 extents bytes =
     if is_second bytes then map (extent_at bytes (first_extent bytes)) (range_with_len 0 (extent_count bytes))
@@ -78,14 +78,14 @@ hardware bytes = record {
   extents = extents bytes;
 }
 
--- Behind the zones, or the extents, the number of records.
+-- After the zones, or the extents, the number of records.
 abbrev pub count_byte : List ℕ → ℕ
 count_byte bytes = if is_second bytes then extent_byte bytes (extent_count bytes) else map_byte bytes
 
 abbrev pub record_count : List ℕ → ℕ
 record_count bytes = number bytes (count_byte bytes)
 
--- Behind that number the records, 4100 bytes each: a page frame's number and its content. They begin at `first`.
+-- After that number the records, 4100 bytes each: a page frame's number and its content. They begin at `first`.
 abbrev pub first_record : List ℕ → ℕ
 first_record bytes = count_byte bytes + 4
 
@@ -98,7 +98,7 @@ record_frame bytes first j = number bytes (record_byte first j)
 abbrev pub record_page : List ℕ → ℕ → ℕ → List ℕ
 record_page bytes first j = bytes_at 4096 bytes (record_byte first j + 4)
 
--- the content of a page frame: its record's, and zeros without a record
+-- the content of a page frame: its record's, or zeros if it has no record
 abbrev pub page_of : List ℕ → ℕ → Option ℕ → List ℕ
 page_of bytes first None = zero_page
 page_of bytes first (Some j) = record_page bytes first j
@@ -106,7 +106,7 @@ page_of bytes first (Some j) = record_page bytes first j
 abbrev pub content : List ℕ → ℕ → ℕ → ℕ → List ℕ
 content bytes first count p = page_of bytes first (find (λ j. record_frame bytes first j == p) (range_with_len 0 count))
 
--- the content of so many page frames after so many records
+-- the content of the first `frames` page frames, by the first `count` records
 unfoldable pub contents : List ℕ → ℕ → ℕ → ℕ → Memory
 contents bytes first count frames = map (content bytes first count) (range_with_len 0 frames)
 

@@ -14,6 +14,6 @@ carried_frame h m p = if is_valid h p then frame m p else zero_page
 unfoldable pub carried_memory : Hardware → Memory → Memory
 carried_memory h m = map (carried_frame h m) (range_with_len 0 (top h.zones))
 
--- These bytes are a dump of that hardware and that memory.
+-- These bytes are a dump of this hardware and the memory that it carries.
 abbrev pub ReadsBack : Hardware → Memory → List ℕ → Type 0
 ReadsBack h m bytes = dump_of bytes ≡ Ok (record { hw = h; memory = carried_memory h m })

@@ -1,59 +1,101 @@
--- How far a source has been read.
-use Rattle.std.specs.Prelude.{◌≡◌, ℕ, ◌+◌, ◌<◌, ◌≤◌, not, nat_lt, Bool, true, false, List, length, drop, Option, Some}
-use Rattle.std.specs.Prelude.{None, if◌then◌else◌}
+-- How far a source has been read, and what was found.
+use Rattle.std.specs.Prelude.{◌≡◌, ℕ, ◌+◌, ◌≤◌, nat_le, ◌&&◌, ◌||◌, true, List, [], length, drop, Option, Some}
+use Rattle.std.specs.Prelude.{None, Result, Err, IsOk}
 use Rattle.definitions.specs.Streams.{HandsOut}
+use Rattle.definitions.specs.Zones.{numbers}
+use Rattle.plain_machine.specs.Chain.{or_else}
 use Rattle.plain_machine.specs.Machine.{Hardware}
-use Rattle.zones.specs.declared.fault.ZoneFault.{ZoneFault}
-use Rattle.zones.specs.declared.fault.ZoneFault.TheVariants.{NoZone, TooMany, Empty, TooLarge, Overlap}
-use Rattle.dump_file.specs.Dump.{head_fault}
+use Rattle.dump_file.specs.Dump.{IsReadToFault, head_fault, unless, wanted}
 use Rattle.dump_file.specs.Fields as at_fields
+use Rattle.dump_file.specs.declared.dump.DumpFault.{DumpFault}
+use Rattle.dump_file.specs.declared.dump.DumpKind.TheVariants.{Frame, Magic, Header, Zone}
+use Rattle.dump_file.specs.declared.dump.DumpStop.{DumpStop}
+use Rattle.dump_file.specs.declared.dump.DumpStop.TheVariants.{Fault}
+use Rattle.dump_file.specs.declared.front.Front.{Front}
 
 -- a source has handed out a whole text
 abbrev pub HandsOutAll : List ℕ → Option (List ℕ) → Option (List ℕ) → Type 0
 HandsOutAll text old new = HandsOut (length text) text old new
 
--- of these bytes the first k are read, and the rest is left
+-- the first k of these bytes are read, and the rest is left
 pub record IsReadTo (bytes : List ℕ) (k : ℕ) (left : Option (List ℕ)) : Type 0 where
   pub within : k ≤ length bytes
   pub rest : left ≡ Some (drop k bytes)
 
--- How many bytes stand before the records, as far as the front of a dump tells: the 424 that each dump has; the zones,
--- at most 16; in version 2 two numbers, and the extents, at most 64; and the number of records.
-unfoldable pub head_len : List ℕ → ℕ
-head_len bytes =
-    if nat_lt (length bytes) 424 then 424
-    else (if nat_lt 16 (at_fields.zone_count bytes) then 424
-    else (if not (at_fields.is_second bytes) then at_fields.map_byte bytes + 4
-    else (if nat_lt (length bytes) (at_fields.map_byte bytes + 8) then at_fields.map_byte bytes + 8
-    else (if nat_lt 64 (at_fields.extent_count bytes) then at_fields.map_byte bytes + 8
-    else at_fields.extent_byte bytes (at_fields.extent_count bytes) + 4))))
+-- A part of these bytes was read, each field looked at as soon as it was read. The part's first fault, if it has one,
+-- is reported at once; otherwise the part ends at byte `end`, and the rest is left.
+pub record IsRead {A : Type 0} (bytes : List ℕ) (wrong : Option DumpFault) (end : ℕ) (result : Result A DumpStop)
+    (left : Option (List ℕ)) : Type 0 where
+  pub refused : (f : DumpFault) → result ≡ Err (Fault f) → (wrong ≡ Some f) × IsReadToFault bytes f left
+  pub right : IsOk result → (wrong ≡ None) × IsReadTo bytes end left
 
--- the fields of a dump's front that bound what follows it, where they are without fault
-pub record IsFront (bytes : List ℕ) : Type 0 where
-  pub long : 424 ≤ length bytes
-  pub some_slots : 2 ≤ at_fields.slots bytes
-  pub few_slots : at_fields.slots bytes ≤ 131072
-  pub some_zones : 1 ≤ at_fields.zone_count bytes
-  pub few_zones : at_fields.zone_count bytes ≤ 16
+-- what is wrong with the mark, the number of slots, the number of zones
+abbrev pub mark_fault : List ℕ → Option DumpFault
+mark_fault bytes = or_else (wanted bytes 8) (unless (at_fields.is_first bytes || at_fields.is_second bytes) Magic 0)
 
--- of the first n places that at which a test fails first
-pub record IsFirstNot (test : ℕ → Bool) (n at : ℕ) : Type 0 where
-  pub within : at < n
-  pub not_there : test at ≡ false
-  pub before : (j : ℕ) → j < at → test j ≡ true
+abbrev pub slots_fault : List ℕ → Option DumpFault
+slots_fault bytes =
+    or_else (wanted bytes 16)
+    (unless (nat_le 2 (at_fields.slots bytes) && nat_le (at_fields.slots bytes) 131072) Header 12)
 
--- these bytes have no fault before their records, and say so of the machine, where the records begin, and how many
+abbrev pub zone_count_fault : List ℕ → Option DumpFault
+zone_count_fault bytes =
+    or_else (wanted bytes 32)
+    (unless (nat_le 1 (at_fields.zone_count bytes) && nat_le (at_fields.zone_count bytes) 16) Zone 28)
+
+-- what is wrong with the number of records
+abbrev pub record_count_fault : List ℕ → Option DumpFault
+record_count_fault bytes =
+    or_else (wanted bytes (at_fields.count_byte bytes + 4))
+    (unless (nat_le (at_fields.record_count bytes) (length (numbers (at_fields.zones bytes)))) Frame
+    (at_fields.count_byte bytes))
+
+-- what these bytes say before their zones
+unfoldable pub front_of : List ℕ → Front
+front_of bytes = record {
+  is_second = at_fields.is_second bytes;
+  ident = at_fields.ident bytes;
+  slots = at_fields.slots bytes;
+  frame_table = at_fields.number bytes 16;
+  slot_table = at_fields.number bytes 20;
+  hw_sig = at_fields.number bytes 24;
+  zone_count = at_fields.zone_count bytes;
+}
+
+-- the hardware that a front, zones and extents make
+abbrev pub hardware_by : Front → List (ℕ × ℕ) → List (ℕ × ℕ × ℕ) → Hardware
+hardware_by front zones extents = record {
+  zones = zones;
+  slots = front.slots;
+  frame_table = front.frame_table;
+  slot_table = front.slot_table;
+  regions = [];
+  ident = front.ident;
+  hw_sig = front.hw_sig;
+  extents = extents;
+}
+
+-- these bytes are of version 2, and have `len` extents, the first at byte `first`
+pub record HasExtents (bytes : List ℕ) (first len : ℕ) : Type 0 where
+  pub second : at_fields.is_second bytes ≡ true
+  pub first_is : first ≡ at_fields.first_extent bytes
+  pub len_is : len ≡ at_fields.extent_count bytes
+
+-- these bytes are of version 2, have `slots` slots, and their file map begins at byte `map_at`
+pub record HasMap (bytes : List ℕ) (map_at slots : ℕ) : Type 0 where
+  pub second : at_fields.is_second bytes ≡ true
+  pub map_is : map_at ≡ at_fields.map_byte bytes
+  pub slots_are : slots ≡ at_fields.slots bytes
+
+-- these bytes describe this machine, and have the number of records at byte `end`
+pub record IsMade (bytes : List ℕ) (hw : Hardware) (end : ℕ) : Type 0 where
+  pub hw_is : hw ≡ at_fields.hardware bytes
+  pub end_is : end ≡ at_fields.count_byte bytes
+
+-- these bytes have no fault before their records, and say what the machine is, where the records begin, and how many
 -- there are
 pub record IsHeader (bytes : List ℕ) (hw : Hardware) (first count : ℕ) : Type 0 where
   pub no_fault : head_fault bytes ≡ None
   pub hw_is : hw ≡ at_fields.hardware bytes
   pub first_is : first ≡ at_fields.first_record bytes
   pub count_is : count ≡ at_fields.record_count bytes
-
--- the zone that a fault names
-abbrev pub place_of : ZoneFault → Option ℕ
-place_of NoZone = None
-place_of TooMany = None
-place_of (Empty at) = Some at
-place_of (TooLarge at) = Some at
-place_of (Overlap at) = Some at

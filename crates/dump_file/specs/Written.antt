@@ -1,4 +1,4 @@
--- The one dump that is written of a machine without regions. Numbers have 4 bytes, little-endian.
+-- The dump that is written of a machine without regions. Numbers have 4 bytes, little-endian.
 use Rattle.std.specs.Prelude.{ℕ, Bool, false, not, ◌==◌, ◌&&◌, List, [], ◌∷◌, ◌++◌, length, filter, codes}
 use Rattle.std.specs.Prelude.{if◌then◌else◌}
 use Rattle.std.specs.List.{concat, flat_map}
@@ -13,8 +13,8 @@ use Rattle.plain_machine.specs.Machine.{Hardware, Memory}
 unfoldable pub number_bytes : ℕ → List ℕ
 number_bytes n = little_bytes 4 n
 
--- The file map is the one extent that lays each slot on the block of its number: such a machine has a dump of version
--- 1.
+-- The file map is the one extent that lays each slot on the block of its number. The dump of such a machine is of
+-- version 1.
 abbrev pub is_plain_map : List (ℕ × ℕ × ℕ) → ℕ → Bool
 is_plain_map [] slots = false
 is_plain_map (e ∷ []) slots = (e.0 == 0) && (e.1 == slots) && (e.2 == 0)
@@ -56,7 +56,7 @@ front_bytes h =
 unfoldable pub layout_bytes : Hardware → List ℕ
 layout_bytes h = flat_map zone_bytes h.zones ++ (if is_plain h then [] else map_bytes h.extents)
 
--- Those of these page frames that aren't all zero: each has a record, if it is valid.
+-- Those of these page frames that aren't all zero. Each has a record, if it is valid.
 abbrev pub nonzero : Memory → List ℕ → List ℕ
 nonzero m ps = filter (λ p. not (is_zeros (frame m p))) ps
 
@@ -64,14 +64,14 @@ nonzero m ps = filter (λ p. not (is_zeros (frame m p))) ps
 abbrev pub record_bytes : Memory → ℕ → List ℕ
 record_bytes m p = number_bytes p ++ frame m p
 
--- the records of those of these page frames that have one
+-- the records of these page frames, for those that have one
 abbrev pub records_bytes : Memory → List ℕ → List ℕ
 records_bytes m ps = flat_map (record_bytes m) (nonzero m ps)
 
--- all that stands before the records
+-- everything before the records
 unfoldable pub head_bytes : Hardware → Memory → List ℕ
 head_bytes h m = front_bytes h ++ layout_bytes h ++ number_bytes (length (nonzero m (numbers h.zones)))
 
--- the dump of a machine: records for just the valid page frames that aren't all zero, ascending
+-- the dump of a machine: records for exactly the valid page frames that aren't all zero, ascending
 unfoldable pub dump_bytes : Hardware → Memory → List ℕ
 dump_bytes h m = head_bytes h m ++ records_bytes m (numbers h.zones)

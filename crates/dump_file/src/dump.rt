@@ -3,15 +3,15 @@ use thiserror::Error;
 /// What is wrong with a dump.
 #[derive(Clone, Copy, Debug, PartialEq, Eq)]
 pub enum DumpKind {
-    /// The input ends before a byte that is wanted.
+    /// The input ends before the byte that is wanted.
     Short,
-    /// It begins with the mark of no version.
+    /// The input doesn't begin with the mark of a version.
     Magic,
-    /// The number of slots, or where the tables lie.
+    /// The number of slots is out of range, or the tables lie on page frames where they can't.
     Header,
     Zone,
     Extent,
-    /// The number of records, or a record's page frame number that isn't valid.
+    /// There are more records than valid page frames, or a record's page frame number isn't valid.
     Frame,
     /// A record's page frame number isn't above the one before.
     Order,

@@ -5,9 +5,9 @@ use arrayvec::ArrayVec;
 use byteorder::{ByteOrder, LittleEndian};
 use std::marker::Model;
 
-/// The bytes of a dump before its records: at most 424, 16 zones, 64 extents after two numbers, and the number of
+/// The most bytes that a dump has before its records: 424, 16 zones, 64 extents after two numbers, and the number of
 /// records.
-pub(crate) const MOST_BYTES: usize = 1332;
+const MOST_BYTES: usize = 1332;
 
 /// The front of a dump that is being written.
 #[derive(Drop)]

@@ -1,4 +1,4 @@
-//! Dumps, which carry a machine in a file.
+//! Memory dumps: files that carry a machine.
 #![tactic(auto)]
 
 mod dump;

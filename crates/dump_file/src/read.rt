@@ -4,30 +4,28 @@ ghost use Rattle.definitions.specs.Disk.{HasRisen};
 ghost use Rattle.definitions.specs.Streams.{IsUsedUp};
 ghost use Rattle.definitions.specs.Zones.{top};
 ghost use Rattle.plain_machine.specs.Machine.{Fits};
-ghost use Rattle.dump_file.specs.Dump.{IsReadWithin, body_fault, dump_of, head_fault};
-ghost use Rattle.dump_file.specs.Fields.{contents, hardware, first_record, record_count};
-ghost use Rattle.dump_file.specs.Reading.{IsHeader, IsReadTo};
+ghost use Rattle.dump_file.specs.Dump.{IsReadToFault, body_fault, dump_of, head_fault};
+ghost use Rattle.dump_file.specs.Fields.{contents};
+ghost use Rattle.dump_file.specs.Reading.{IsRead, IsReadTo};
 
 use crate::dump::{DumpFault, DumpKind, DumpStop};
 use crate::fill::fault;
-use crate::front::read_front;
-use crate::head::MOST_BYTES;
-use crate::header::{Header, header_of};
+use crate::header::{Header, read_header};
 use crate::records::{RECORD, read_records};
 use byte_streams::{Source, fill};
 use frame_arena::Frames;
 use machine::{Dump, tables_fit};
 use std::alloc::Global;
 
-/// Reads a dump to its end. A fault is the first one, where several could be named.
+/// Reads a dump to its end, or reports its first fault.
 pub fn read_dump<S: Source>(alloc: Global, source: &mut S) -> Result<Dump, DumpStop>
     ensures dump { IfOk result (λ d. (bytes : List ℕ) → S.remaining source.old ≡ Some bytes →
         dump_of bytes ≡ Ok (record { hw = d.hw; memory = d.frames })) }
     ensures end { IsOk result → IsUsedUp (S.remaining source.new) }
     ensures fault { (bytes : List ℕ) (f : DumpFault) → S.remaining source.old ≡ Some bytes →
         result ≡ Err (DumpStop.Fault f) → dump_of bytes ≡ Err f }
-    ensures enough { (bytes : List ℕ) (f : DumpFault) → S.remaining source.old ≡ Some bytes →
-        result ≡ Err (DumpStop.Fault f) → IsReadWithin bytes f (S.remaining source.new) }
+    ensures read { (bytes : List ℕ) (f : DumpFault) → S.remaining source.old ≡ Some bytes →
+        result ≡ Err (DumpStop.Fault f) → IsReadToFault bytes f (S.remaining source.new) }
     ensures fits { IfOk result (λ d. Fits d.hw d.frames) }
     ensures no_region { IfOk result (λ d. d.hw.regions ≡ []) }
     ensures memory { (bytes : List ℕ) → S.remaining source.old ≡ Some bytes → result ≡ Err DumpStop.NoMemory →
@@ -46,35 +44,7 @@ pub fn read_dump<S: Source>(alloc: Global, source: &mut S) -> Result<Dump, DumpS
     })
 }
 
-/// Reads what stands before the records.
-fn read_header<S: Source>(source: &mut S) -> Result<Header, DumpStop>
-    ensures fault { (bytes : List ℕ) (f : DumpFault) → S.remaining source.old ≡ Some bytes →
-        result ≡ Err (DumpStop.Fault f) → head_fault bytes ≡ Some f }
-    ensures enough { (bytes : List ℕ) (f : DumpFault) → S.remaining source.old ≡ Some bytes →
-        result ≡ Err (DumpStop.Fault f) → IsReadWithin bytes f (S.remaining source.new) }
-    ensures header { IfOk result (λ h. (bytes : List ℕ) → S.remaining source.old ≡ Some bytes →
-        IsHeader bytes h.hw h.first h.count) }
-    ensures left { IfOk result (λ h. (bytes : List ℕ) → S.remaining source.old ≡ Some bytes →
-        IsReadTo bytes h.first (S.remaining source.new)) }
-    ensures early { IfOk result (λ h. h.first ≤ 1332) }
-    ensures no_region { IfOk result (λ h. h.hw.regions ≡ []) }
-    ensures memory { result ≢ Err DumpStop.NoMemory }
-    ensures counted { S.faults source.old ≤ S.faults source.new }
-    ensures cause { result ≡ Err DumpStop.SourceFault → HasRisen (S.faults source.old) (S.faults source.new) }
-{
-    let mut bytes = [0; MOST_BYTES];
-    let len = match read_front(source, &mut bytes) {
-        Ok(len) => len,
-        Err(_) => return Err(DumpStop::SourceFault),
-    };
-    match header_of(&bytes[..len]) {
-        Ok(header) => Ok(header),
-        Err(fault) => Err(DumpStop::Fault(fault)),
-    }
-}
-
 /// Reads the records into page frames of zeros, up to the end of the input.
-#[tactic(auto, unfolding(crate::specs::Dump::body_fault))]
 fn read_body<S: Source>(
     source: &mut S,
     header: &Header,
@@ -82,14 +52,10 @@ fn read_body<S: Source>(
 ) -> Result<(), DumpStop>
     requires size { length frames.old ≡ top header.now.hw.zones }
     requires early { header.now.first ≤ 1332 }
-    ensures fault { (bytes : List ℕ) (f : DumpFault) → IsReadTo bytes header.now.first (S.remaining source.old) →
-        frames.old ≡ contents bytes header.now.first 0 (top header.now.hw.zones) → result ≡ Err (DumpStop.Fault f) →
-        body_fault header.now.hw bytes header.now.first header.now.count ≡ Some f }
-    ensures enough { (bytes : List ℕ) (f : DumpFault) → IsReadTo bytes header.now.first (S.remaining source.old) →
-        result ≡ Err (DumpStop.Fault f) → IsReadWithin bytes f (S.remaining source.new) }
-    ensures none { (bytes : List ℕ) → IsReadTo bytes header.now.first (S.remaining source.old) →
-        frames.old ≡ contents bytes header.now.first 0 (top header.now.hw.zones) → IsOk result →
-        body_fault header.now.hw bytes header.now.first header.now.count ≡ None }
+    ensures read { (bytes : List ℕ) → IsReadTo bytes header.now.first (S.remaining source.old) →
+        frames.old ≡ contents bytes header.now.first 0 (top header.now.hw.zones) →
+        IsRead bytes (body_fault header.now.hw bytes header.now.first header.now.count) (length bytes) result
+        (S.remaining source.new) }
     ensures frames { (bytes : List ℕ) → IsReadTo bytes header.now.first (S.remaining source.old) →
         frames.old ≡ contents bytes header.now.first 0 (top header.now.hw.zones) → IsOk result →
         frames.new ≡ contents bytes header.now.first header.now.count (top header.now.hw.zones) }
@@ -99,7 +65,7 @@ fn read_body<S: Source>(
     ensures cause { result ≡ Err DumpStop.SourceFault → HasRisen (S.faults source.old) (S.faults source.new) }
     ensures memory { result ≢ Err DumpStop.NoMemory }
 {
-    let first = header.first as u64;
+    let first = header.first;
     read_records(source, header.hw.zones(), first, header.count, frames)?;
     if !is_over(source)? {
         return Err(fault(DumpKind::Extra, first + RECORD * u64::from(header.count)));
@@ -110,7 +76,7 @@ fn read_body<S: Source>(
     }
 }
 
-/// Whether no byte is left. Takes one where there is one.
+/// Returns whether no byte is left. Takes a byte if there is one.
 fn is_over<S: Source>(source: &mut S) -> Result<bool, DumpStop>
     ensures over { IfOk result (λ over. IsTrue over → IsUsedUp (S.remaining source.new)) }
     ensures at { IfOk result (λ over. (bytes : List ℕ) (k : ℕ) → IsReadTo bytes k (S.remaining source.old) →

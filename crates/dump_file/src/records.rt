@@ -6,20 +6,20 @@ ghost use Rattle.definitions.specs.Disk.{HasRisen};
 ghost use Rattle.definitions.specs.Streams.{HandsOut, IsUsedUp};
 ghost use Rattle.definitions.specs.Tables.{with_frame};
 ghost use Rattle.definitions.specs.Zones.{numbers, top};
-ghost use Rattle.dump_file.specs.Dump.{IsReadWithin, fault_of_record, is_above, records_fault};
+ghost use Rattle.dump_file.specs.Dump.{fault_of_record, is_above, records_fault};
 ghost use Rattle.dump_file.specs.Fields.{contents, number, record_byte};
-ghost use Rattle.dump_file.specs.Reading.{IsReadTo};
+ghost use Rattle.dump_file.specs.Reading.{IsRead, IsReadTo};
 
-use crate::dump::{DumpFault, DumpKind, DumpStop};
+use crate::dump::{DumpKind, DumpStop};
 use crate::fill::{fault, read_number, take_exact};
 use byte_streams::Source;
 use frame_arena::Frames;
 use zones::Zones;
 
-/// How many bytes a record has: a page frame's number and its content.
+/// The number of bytes of a record: a page frame's number and its content.
 pub(crate) const RECORD: u64 = 4100;
 
-/// Reads so many records, the first of which begins at byte `first`, into page frames of zeros.
+/// Reads `count` records, the first of which begins at byte `first`, into page frames of zeros.
 pub(crate) fn read_records<S: Source>(
     source: &mut S,
     zones: &Zones,
@@ -29,14 +29,9 @@ pub(crate) fn read_records<S: Source>(
 ) -> Result<(), DumpStop>
     requires size { length frames.old ≡ top zones.now }
     requires early { first ≤ 2 ^ 32 }
-    ensures fault { (bytes : List ℕ) (f : DumpFault) → IsReadTo bytes first (S.remaining source.old) →
-        result ≡ Err (DumpStop.Fault f) → records_fault zones.now bytes first count ≡ Some f }
-    ensures enough { (bytes : List ℕ) (f : DumpFault) → IsReadTo bytes first (S.remaining source.old) →
-        result ≡ Err (DumpStop.Fault f) → IsReadWithin bytes f (S.remaining source.new) }
-    ensures none { (bytes : List ℕ) → IsReadTo bytes first (S.remaining source.old) → IsOk result →
-        records_fault zones.now bytes first count ≡ None }
-    ensures left { (bytes : List ℕ) → IsReadTo bytes first (S.remaining source.old) → IsOk result →
-        IsReadTo bytes (record_byte first count) (S.remaining source.new) }
+    ensures read { (bytes : List ℕ) → IsReadTo bytes first (S.remaining source.old) →
+        IsRead bytes (records_fault zones.now bytes first count) (record_byte first count) result
+        (S.remaining source.new) }
     ensures frames { (bytes : List ℕ) → IsReadTo bytes first (S.remaining source.old) →
         frames.old ≡ contents bytes first 0 (top zones.now) → IsOk result →
         frames.new ≡ contents bytes first count (top zones.now) }
@@ -54,7 +49,7 @@ pub(crate) fn read_records<S: Source>(
     Ok(())
 }
 
-/// Reads the record that begins at byte `at`, behind one of page frame `before`. Answers its page frame.
+/// Reads the record that begins at byte `at` and comes after one of page frame `before`. Returns its page frame.
 fn read_record<S: Source>(
     source: &mut S,
     zones: &Zones,
@@ -65,18 +60,12 @@ fn read_record<S: Source>(
 ) -> Result<u32, DumpStop>
     requires size { length frames.old ≡ top zones.now }
     requires early { at ≤ 2 ^ 47 }
-    ensures fault { (bytes : List ℕ) (f : DumpFault) → IsReadTo bytes at (S.remaining source.old) →
-        result ≡ Err (DumpStop.Fault f) → fault_of_record zones.now bytes before at ≡ Some f }
-    ensures enough { (bytes : List ℕ) (f : DumpFault) → IsReadTo bytes at (S.remaining source.old) →
-        result ≡ Err (DumpStop.Fault f) → IsReadWithin bytes f (S.remaining source.new) }
-    ensures none { (bytes : List ℕ) → IsReadTo bytes at (S.remaining source.old) → IsOk result →
-        fault_of_record zones.now bytes before at ≡ None }
+    ensures read { (bytes : List ℕ) → IsReadTo bytes at (S.remaining source.old) →
+        IsRead bytes (fault_of_record zones.now bytes before at) (at + 4100) result (S.remaining source.new) }
     ensures frame { IfOk result (λ p. (p < length frames.old) × ((bytes : List ℕ) →
         IsReadTo bytes at (S.remaining source.old) → p ≡ number bytes at)) }
     ensures frames { IfOk result (λ p. (bytes : List ℕ) → IsReadTo bytes at (S.remaining source.old) →
         frames.new ≡ with_frame frames.old p (bytes_at 4096 bytes (at + 4))) }
-    ensures left { (bytes : List ℕ) → IsReadTo bytes at (S.remaining source.old) → IsOk result →
-        IsReadTo bytes (at + 4100) (S.remaining source.new) }
     ensures size { length frames.new ≡ length frames.old }
     ensures counted { S.faults source.old ≤ S.faults source.new }
     ensures cause { result ≡ Err DumpStop.SourceFault → HasRisen (S.faults source.old) (S.faults source.new) }
@@ -94,7 +83,7 @@ fn read_record<S: Source>(
     Ok(p)
 }
 
-/// Whether a page frame's number is above that of the record before.
+/// Returns whether a page frame's number is above that of the record before.
 fn is_above(before: Option<u32>, p: u32) -> bool
     ensures { result ≡ is_above before p }
 {

@@ -27,8 +27,7 @@ pub fn write_dump<K: Sink>(sink: &mut K, hw: &Hardware, frames: &Frames) -> Resu
     ensures whole { OnOk result (TakesAll (dump_bytes hw.now frames.now) (K.taken sink.old) (K.taken sink.new)) }
     ensures front { TakesFront (dump_bytes hw.now frames.now) (K.taken sink.old) (K.taken sink.new) }
 
-    // What a sink takes that was empty is a dump of this machine, where that has no regions and its tables are well
-    // formed.
+    // What an empty sink takes is a dump of this machine, if the machine has no regions and its tables are well formed.
     ensures reads_back { (bytes : List ℕ) → hw.now.regions ≡ [] → Fits hw.now frames.now → K.taken sink.old ≡ Some [] →
         K.taken sink.new ≡ Some bytes → IsOk result → ReadsBack hw.now frames.now bytes }
 
@@ -76,7 +75,7 @@ fn put_front(head: &mut Head, hw: &Hardware)
     head.put(&[0, 0]);
 }
 
-/// Whether each slot lies on the block of its number.
+/// Returns whether each slot lies on the block of its number.
 fn is_plain(hw: &Hardware) -> bool
     ensures { result ≡ is_plain hw.now }
 {
@@ -86,7 +85,7 @@ fn is_plain(hw: &Hardware) -> bool
     }
 }
 
-/// How many zones there are.
+/// Returns how many zones there are.
 fn count_zones(zones: &Zones) -> u32
     ensures { result ≡ length zones.now }
 {
@@ -156,7 +155,7 @@ fn put_extents(head: &mut Head, extents: &[(u32, u32, u32)])
     }
 }
 
-/// How many page frames have a record.
+/// Returns how many page frames have a record.
 fn count_records(frames: &Frames, zones: &Zones) -> u32
     requires { length frames.now ≡ top zones.now }
     ensures { result ≡ length (nonzero frames.now (numbers zones.now)) }
@@ -168,7 +167,7 @@ fn count_records(frames: &Frames, zones: &Zones) -> u32
     total
 }
 
-/// How many page frames of a zone have a record.
+/// Returns how many page frames of a zone have a record.
 fn count_records_of_zone(frames: &Frames, start: u32, count: u32) -> u32
     requires within { start + count ≤ length frames.now }
     requires few { start + count ≤ 65536 }

@@ -1,5 +1,5 @@
 -- From why one of two dumps wasn't read to what is told of it.
-use Rattle.std.proofs.Common.{ℕ, List, Option}
+use Rattle.std.proofs.Common.{ℕ, List, Option, refl}
 use Rattle.dump_file.specs.Dump.{DumpValue}
 use Rattle.swsusp_cli.specs.Stops.{IsStopTold, LacksDump}
 use Rattle.command_kit.specs.View.{SinkView}
@@ -8,16 +8,16 @@ use Rattle.swsusp_cli.specs.declared.stop.Stop.{Stop}
 use Rattle.swsusp_cli.specs.declared.stop.Stop.TheVariants.{Source, Memory, Script, Dump}
 use Rattle.machine_cli.specs.Compared.{Compares, IsOf, no_first, no_second, out_of_memory, unread}
 
-pub lacks_first : (first second after : Option (List ℕ)) (status : Status) (out out' note note' : SinkView) (stop : Stop) → LacksDump first after stop → IsStopTold stop status out out' note note' →
-    Compares first second status out out' note note'
-lacks_first first second after status out out' note note' Source lacks told = unread told.0 told.1 told.2
-lacks_first first second after status out out' note note' Memory lacks told = out_of_memory told
-lacks_first first second after status out out' note note' (Script fault) lacks told = absurd lacks
-lacks_first first second after status out out' note note' (Dump fault) lacks told = no_first fault (λ bytes left. (lacks bytes left).0) told
+pub lacks_first : (first first' second : Option (List ℕ)) (status : Status) (out out' note note' : SinkView) (stop : Stop) → LacksDump first first' stop → IsStopTold stop status out out' note note' →
+    Compares first first' second second status out out' note note'
+lacks_first first first' second status out out' note note' Source lacks told = unread told.0 told.1 told.2
+lacks_first first first' second status out out' note note' Memory lacks told = out_of_memory told
+lacks_first first first' second status out out' note note' (Script fault) lacks told = absurd lacks
+lacks_first first first' second status out out' note note' (Dump fault) lacks told = no_first fault lacks refl told
 
-pub lacks_second : (first second after : Option (List ℕ)) (a : DumpValue) (status : Status) (out out' note note' : SinkView) (stop : Stop) → IsOf first a → LacksDump second after stop →
-    IsStopTold stop status out out' note note' → Compares first second status out out' note note'
-lacks_second first second after a status out out' note note' Source is lacks told = unread told.0 told.1 told.2
-lacks_second first second after a status out out' note note' Memory is lacks told = out_of_memory told
-lacks_second first second after a status out out' note note' (Script fault) is lacks told = absurd lacks
-lacks_second first second after a status out out' note note' (Dump fault) is lacks told = no_second a fault is (λ bytes left. (lacks bytes left).0) told
+pub lacks_second : (first first' second second' : Option (List ℕ)) (a : DumpValue) (status : Status) (out out' note note' : SinkView) (stop : Stop) → IsOf first first' a → LacksDump second second' stop →
+    IsStopTold stop status out out' note note' → Compares first first' second second' status out out' note note'
+lacks_second first first' second second' a status out out' note note' Source is lacks told = unread told.0 told.1 told.2
+lacks_second first first' second second' a status out out' note note' Memory is lacks told = out_of_memory told
+lacks_second first first' second second' a status out out' note note' (Script fault) is lacks told = absurd lacks
+lacks_second first first' second second' a status out out' note note' (Dump fault) is lacks told = no_second a fault is lacks told

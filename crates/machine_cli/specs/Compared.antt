@@ -1,6 +1,7 @@
 -- How `differ` may end: it reads two dumps, and reports their first difference.
-use Rattle.std.specs.Prelude.{◌≡◌, ◌≢◌, ℕ, List, [], ◌++◌, codes, decimal, Option, Some, None, Ok, Err, IsNone, IfSome}
+use Rattle.std.specs.Prelude.{◌≡◌, ◌≢◌, ℕ, List, [], ◌++◌, codes, decimal, Option, Some, None, Ok, IsNone, IfSome}
 use Rattle.std.specs.Prelude.{◌↔◌}
+use Rattle.definitions.specs.Streams.{IsUsedUp}
 use Rattle.dump_differ.specs.Differences.{AreSame, IsFirst}
 use Rattle.dump_differ.specs.declared.Difference.{Difference}
 use Rattle.dump_differ.specs.declared.Difference.TheVariants.{Hardware, Saveable, Page}
@@ -10,6 +11,8 @@ use Rattle.machine.specs.declared.dump.Dump.{Dump}
 use Rattle.command_kit.specs.Told.{RunResult, line, memory_told}
 use Rattle.swsusp_cli.specs.Dumps.{dump_told}
 use Rattle.swsusp_cli.specs.Replay.{unread_note}
+use Rattle.swsusp_cli.specs.Stops.{LacksDump}
+use Rattle.swsusp_cli.specs.declared.stop.Stop.TheVariants as stop
 use Rattle.command_kit.specs.Told.{IsTold, IsTried}
 use Rattle.command_kit.specs.View.{SinkView}
 use Rattle.command_kit.specs.declared.status.Status.{Status}
@@ -32,22 +35,23 @@ pub record IsDifference (a b : DumpValue) (difference : Option Difference) : Typ
   pub none : IsNone difference ↔ AreSame (machine_of a) (machine_of b)
   pub first : IfSome difference (IsFirst (machine_of a) (machine_of b))
 
--- the bytes, if known, are this dump; or they are no dump, with this fault
-abbrev pub IsOf : Option (List ℕ) → DumpValue → Type 0
-IsOf left dump = (bytes : List ℕ) → left ≡ Some bytes → dump_of bytes ≡ Ok dump
+-- the input, if it tells its bytes, is this dump, and is read to its end
+abbrev pub IsOf : (left after : Option (List ℕ)) → DumpValue → Type 0
+IsOf left after dump = ((bytes : List ℕ) → left ≡ Some bytes → dump_of bytes ≡ Ok dump) × IsUsedUp after
 
-abbrev pub HasFault : Option (List ℕ) → DumpFault → Type 0
-HasFault left fault = (bytes : List ℕ) → left ≡ Some bytes → dump_of bytes ≡ Err fault
-
--- One of these endings, by the bytes of the two inputs and the outputs before and after.
-pub data Compares (first second : Option (List ℕ)) (status : Status) (out out' note note' : SinkView) : Type 0 where
-  no_first : (fault : DumpFault) → HasFault first fault → IsTold (dump_told fault) status out out' note note' →
-      Compares first second status out out' note note'
-  no_second : (a : DumpValue) (fault : DumpFault) → IsOf first a → HasFault second fault →
-      IsTold (dump_told fault) status out out' note note' → Compares first second status out out' note note'
-  out_of_memory : IsTold memory_told status out out' note note' → Compares first second status out out' note note'
+-- How `differ` may end, by what is left of the two inputs and by the outputs, each before and after.
+pub data Compares (first first' second second' : Option (List ℕ)) (status : Status)
+    (out out' note note' : SinkView) : Type 0 where
+  no_first : (fault : DumpFault) → LacksDump first first' (stop.Dump fault) → second' ≡ second →
+      IsTold (dump_told fault) status out out' note note' →
+      Compares first first' second second' status out out' note note'
+  no_second : (a : DumpValue) (fault : DumpFault) → IsOf first first' a → LacksDump second second' (stop.Dump fault) →
+      IsTold (dump_told fault) status out out' note note' →
+      Compares first first' second second' status out out' note note'
+  out_of_memory : IsTold memory_told status out out' note note' →
+      Compares first first' second second' status out out' note note'
   unread : status ≡ Stream → out' ≡ out → IsTried unread_note note note' →
-      Compares first second status out out' note note'
-  compared : (a b : DumpValue) (difference : Option Difference) → IsOf first a → IsOf second b →
+      Compares first first' second second' status out out' note note'
+  compared : (a b : DumpValue) (difference : Option Difference) → IsOf first first' a → IsOf second second' b →
       IsDifference a b difference → IsTold (difference_told difference) status out out' note note' →
-      Compares first second status out out' note note'
+      Compares first first' second second' status out out' note note'

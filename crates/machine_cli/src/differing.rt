@@ -20,7 +20,10 @@ pub fn differ<I: Source, J: Source, O: Sink, N: Sink>(
     out: &mut O,
     note: &mut N,
 ) -> Status
-    ensures outcome { Compares (I.remaining first.old) (J.remaining second.old) result
+    ensures outcome { Compares (I.remaining first.old) (I.remaining first.new)
+        (J.remaining second.old)
+        (J.remaining second.new)
+        result
         (sink_view O.Sink out.old)
         (sink_view O.Sink out.new)
         (sink_view N.Sink note.old)

@@ -1,7 +1,7 @@
 -- From why a command has no input to how it ends.
 use Rattle.std.proofs.Common.{◌≡◌, ℕ, List, Option, Some, Err, refl}
 use Rattle.definitions.specs.Disk.{HasRisen}
-use Rattle.dump_file.specs.Dump.{IsReadWithin, dump_of}
+use Rattle.dump_file.specs.Dump.{IsReadToFault, dump_of}
 use Rattle.dump_file.specs.declared.dump.DumpFault.{DumpFault}
 use Rattle.dump_file.specs.declared.dump.DumpStop.{DumpStop}
 use Rattle.dump_file.specs.declared.dump.DumpStop.TheVariants as of_dump
@@ -23,7 +23,7 @@ script_lacking left (of_parse.Fault fault) says = λ bytes e. says bytes fault e
 script_lacking left of_parse.NoMemory says = tt
 
 pub dump_lacking : (left after : Option (List ℕ)) (why : DumpStop) → ((bytes : List ℕ) (fault : DumpFault) → left ≡ Some bytes → why ≡ of_dump.Fault fault → dump_of bytes ≡ Err fault) →
-    ((bytes : List ℕ) (fault : DumpFault) → left ≡ Some bytes → why ≡ of_dump.Fault fault → IsReadWithin bytes fault after) → LacksDump left after (dump_stop why)
+    ((bytes : List ℕ) (fault : DumpFault) → left ≡ Some bytes → why ≡ of_dump.Fault fault → IsReadToFault bytes fault after) → LacksDump left after (dump_stop why)
 dump_lacking left after (of_dump.Fault fault) says read = λ bytes e. (says bytes fault e refl, read bytes fault e refl)
 dump_lacking left after of_dump.SourceFault says read = tt
 dump_lacking left after of_dump.NoMemory says read = tt

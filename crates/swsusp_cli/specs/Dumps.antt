@@ -3,7 +3,7 @@ use Rattle.std.specs.Prelude.{◌≡◌, ◌≤◌, ◌+◌, ℕ, List, [], ◌+
 use Rattle.std.specs.Prelude.{Option, Some, Ok, Err}
 use Rattle.page_core.specs.declared.format.Format.{Format}
 use Rattle.definitions.specs.Streams.{IsUsedUp}
-use Rattle.dump_file.specs.Dump.{IsReadWithin, DumpValue, dump_of}
+use Rattle.dump_file.specs.Dump.{IsReadToFault, DumpValue, dump_of}
 use Rattle.dump_file.specs.declared.dump.DumpFault.{DumpFault}
 use Rattle.dump_file.specs.declared.dump.DumpKind.{DumpKind}
 use Rattle.dump_file.specs.declared.dump.DumpKind.TheVariants as kind
@@ -43,7 +43,7 @@ dump_told fault = record { status = Input; out = []; note = dump_note fault }
 -- the fault is reported, the input is read no further than shows the fault, and the disk isn't called
 pub record IsNoDump (x x' : View) (status : Status) (fault : DumpFault) : Type 0 where
   pub says : (bytes : List ℕ) → x.left ≡ Some bytes → dump_of bytes ≡ Err fault
-  pub read : (bytes : List ℕ) → x.left ≡ Some bytes → IsReadWithin bytes fault x'.left
+  pub read : (bytes : List ℕ) → x.left ≡ Some bytes → IsReadToFault bytes fault x'.left
   pub told : Tells (dump_told fault) status x x'
   pub untouched : x'.disk ≡ x.disk
 

@@ -1,6 +1,6 @@
 -- Why a command has no script or no dump to work on, and what is printed about it.
 use Rattle.std.specs.Prelude.{◌≡◌, ℕ, List, Option, Some, Err, ⊤}
-use Rattle.dump_file.specs.Dump.{IsReadWithin, dump_of}
+use Rattle.dump_file.specs.Dump.{IsReadToFault, dump_of}
 use Rattle.dump_file.specs.declared.dump.DumpStop.{DumpStop}
 use Rattle.dump_file.specs.declared.dump.DumpStop.TheVariants as of_dump
 use Rattle.script.specs.Grammar.{script_of}
@@ -46,7 +46,7 @@ LacksDump left after Source = ⊤
 LacksDump left after Memory = ⊤
 LacksDump left after (Script fault) = ⊥
 LacksDump left after (Dump fault) =
-    (bytes : List ℕ) → left ≡ Some bytes → (dump_of bytes ≡ Err fault) × IsReadWithin bytes fault after
+    (bytes : List ℕ) → left ≡ Some bytes → (dump_of bytes ≡ Err fault) × IsReadToFault bytes fault after
 
 -- after a failed source a note is tried, once, and out isn't called; every other cause is printed as an answer
 abbrev pub IsStopTold : Stop → Status → SinkView → SinkView → SinkView → SinkView → Type 0

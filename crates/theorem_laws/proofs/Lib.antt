@@ -5,3 +5,4 @@ pub mod LoadEnds
 pub mod Cycle
 pub mod Completes
 pub mod ComesBack
+pub mod RefusedDumps

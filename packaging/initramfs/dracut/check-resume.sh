@@ -1,9 +1,9 @@
 #!/bin/sh
-# Checks the image of the resume device once, as soon as the device is there. Its status is 0 always, so that the boot goes on.
+# Checks the image of the resume device once, as soon as the device exists. The status is always 0, so that the boot goes on.
 # shellcheck source=/dev/null
 command -v getarg > /dev/null || . /lib/dracut-lib.sh
 
-# In a shell of its own, since dracut reads this file into its own.
+# The function runs in a subshell, since dracut reads this file into its own shell.
 check_resume() (
     [ ! -e /run/dirukofe.checked ] || exit 0
     ! getarg noresume > /dev/null || exit 0
@@ -13,8 +13,8 @@ check_resume() (
     offset=$(getarg resume_offset=)
     sh /lib/dracut/dirukofe-check.sh "$device" "${offset:-0}" && exit 0
     why="dirukofe: the image on $device is damaged, and dirukofe.check=stop is set. After an exit the kernel gets it all the same."
-    # Who leaves the shell goes on. Where there is none (rd.shell=0), or an end behind it (rd.emergency=), the machine ends, and nothing goes on
-    # meanwhile: where there is no program that ends it, the kernel switches it off.
+    # After an exit from the shell the boot goes on. Without a shell (rd.shell=0), or with an action after it (rd.emergency=), the machine ends, and
+    # nothing goes on meanwhile: if no program ends it, the kernel switches it off.
     if getargbool 1 rd.shell && [ -z "$(getarg rd.emergency)" ]; then
         emergency_shell -n dirukofe "$why"
         exit 0

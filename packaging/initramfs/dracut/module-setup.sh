@@ -1,5 +1,5 @@
 #!/bin/bash
-# A module of dracut: checks the image of the resume device by swsusp_image, where that is installed, before the kernel resumes it.
+# A module of dracut: checks the image of the resume device by swsusp_image, if that is installed, before the kernel resumes it.
 # shellcheck disable=SC2154
 
 check() {
@@ -18,7 +18,7 @@ install() {
             inst_simple "$moddir/resume.conf" "$systemdsystemunitdir/$unit.d/dirukofe.conf"
         done
     else
-        # A job of the queue resumes (00resume.sh), or a script before the root is mounted (10-resume.sh): each of these two comes first.
+        # A job of the queue resumes (00resume.sh), or a script before the root is mounted (10-resume.sh): this check comes before each of the two.
         inst_hook initqueue/finished 00 "$moddir/check-resume.sh"
         inst_hook pre-mount 05 "$moddir/check-resume.sh"
     fi

@@ -1,6 +1,6 @@
 use Rattle.std.proofs.Common.{◌≡◌, length, arith}
 use Rattle.dump_file.proofs.Dumps.{over_is}
-use Rattle.dump_file.proofs.Enough.{asked}
+use Rattle.dump_file.proofs.Refused.{asked}
 use Rattle.dump_file.proofs.Handed.{told}
 use Rattle.dump_file.proofs.read.is_over.Goals as goal
 

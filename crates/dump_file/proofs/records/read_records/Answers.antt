@@ -8,9 +8,10 @@ use Rattle.dump_file.specs.Dump.{fault_of_record, frame_before, record_fault, re
 use Rattle.dump_file.specs.Fields.{contents, number, record_byte, record_frame}
 use Rattle.dump_file.specs.Reading.{IsReadTo}
 use Rattle.dump_file.specs.declared.dump.DumpFault.{DumpFault}
-use Rattle.dump_file.proofs.Chains.{first-at, first-none, passed}
+use Rattle.dump_file.proofs.Chains.{first-at, first-none}
 use Rattle.dump_file.proofs.Contents.{above_all, contents-more}
 use Rattle.dump_file.proofs.RecordFaults.{is_in_order}
+use Rattle.dump_file.proofs.Refused.{goes_on, stops}
 use Rattle.dump_file.proofs.records.read_records.Goals as goal
 
 -- the place of record j
@@ -22,22 +23,19 @@ fault_here zones bytes first j n before o e b h =
     ap (λ (k : Option ℕ). fault_of_record zones bytes k (record_byte first j)) (sym b)
     ∙ ap (λ (k : ℕ). fault_of_record zones bytes before (first + 4100 * k)) (sym e) ∙ h
 
-pub returns-in_err-read_record-clause-fault : goal.returns-in_err-read_record-clause-fault
+pub returns-in_err-read_record-clause-read : goal.returns-in_err-read_record-clause-read
 unfolding records_fault
-returns-in_err-read_record-clause-fault g c bytes f h e =
+returns-in_err-read_record-clause-read g c bytes h =
     let p = err_from_is_err_and c.from_residual.result c.from_residual.ensures.1 in
+    let zones = c.args.zones.now in
+    let first = c.args.first in
     let j = c.loop-j.j in
-    let here = at_record bytes c.args.first j c.from.result (g.S.Source.remaining c.loop-j.source) c.from.ensures (c.loop-j.invariant.left bytes h) in
-    let wrong = c.in_err-read_record.ensures.fault bytes f here (passed c.in_err-read_record.field-0.0 f (sym (p.1 ∙ ap Err p.2) ∙ e)) in
-    first-at (record_fault c.args.zones.now bytes c.args.first) 0 c.args.count j f (omega arith) (omega (arith, c.loop-j-test.true))
+    let here = at_record bytes first j c.from.result (g.S.Source.remaining c.loop-j.source) c.from.ensures (c.loop-j.invariant.left bytes h) in
+    stops _ _ _ (c.in_err-read_record.ensures.read bytes here) (p.1 ∙ ap Err p.2)
+    (λ f e.
+    first-at (record_fault zones bytes first) 0 c.args.count j f (omega arith) (omega (arith, c.loop-j-test.true))
     (λ i from below. c.loop-j.invariant.none bytes h i below)
-    (fault_here c.args.zones.now bytes c.args.first j c.from.result c.loop-j.before (Some f) c.from.ensures (c.loop-j.invariant.before bytes h) wrong)
-
-pub returns-in_err-read_record-clause-enough : goal.returns-in_err-read_record-clause-enough
-returns-in_err-read_record-clause-enough g c bytes f h e =
-    let p = err_from_is_err_and c.from_residual.result c.from_residual.ensures.1 in
-    let here = at_record bytes c.args.first c.loop-j.j c.from.result (g.S.Source.remaining c.loop-j.source) c.from.ensures (c.loop-j.invariant.left bytes h) in
-    c.in_err-read_record.ensures.enough bytes f here (passed c.in_err-read_record.field-0.0 f (sym (p.1 ∙ ap Err p.2) ∙ e))
+    (fault_here zones bytes first j c.from.result c.loop-j.before (Some f) c.from.ensures (c.loop-j.invariant.before bytes h) e))
 
 pub loop-j-preserved : goal.loop-j-preserved
 loop-j-preserved g c =
@@ -50,7 +48,7 @@ loop-j-preserved g c =
     let frame_is : (bytes : List ℕ) → IsReadTo bytes first (remaining c.args.source.now) → c.in_ok-read_record.field-0 ≡ record_frame bytes first j =
     λ bytes h. c.in_ok-read_record.ensures.frame.1 bytes (here bytes h) ∙ ap (λ (k : ℕ). number bytes (first + 4100 * k)) c.from.ensures in
     let none_here : (bytes : List ℕ) → IsReadTo bytes first (remaining c.args.source.now) → record_fault zones bytes first j ≡ None =
-    λ bytes h. fault_here zones bytes first j c.from.result c.loop-j.before None c.from.ensures (c.loop-j.invariant.before bytes h) (c.in_ok-read_record.ensures.none bytes (here bytes h) refl) in
+    λ bytes h. fault_here zones bytes first j c.from.result c.loop-j.before None c.from.ensures (c.loop-j.invariant.before bytes h) ((c.in_ok-read_record.ensures.read bytes (here bytes h)).right refl).0 in
     let more : j + 1 ≡ suc j = omega arith in
     record {
       size = c.read_record.ensures.size ∙ c.loop-j.invariant.size;
@@ -58,7 +56,7 @@ loop-j-preserved g c =
       left =
           λ bytes h.
           let place : first + 4100 * c.from.result + 4100 ≡ record_byte first (j + 1) = omega (arith, c.from.ensures) in
-          subst (λ (k : ℕ). IsReadTo bytes k (remaining c.read_record.new.source)) place (c.in_ok-read_record.ensures.left bytes (here bytes h) refl);
+          subst (λ (k : ℕ). IsReadTo bytes k (remaining c.read_record.new.source)) place ((c.in_ok-read_record.ensures.read bytes (here bytes h)).right refl).1;
       none =
           λ bytes h i lt.
           elim (cases_lt i j) [
@@ -78,8 +76,10 @@ loop-j-preserved g c =
       counted = omega (arith, c.loop-j.invariant.counted, c.read_record.ensures.counted);
     }
 
-pub returns-clause-none : goal.returns-clause-none
+pub returns-clause-read : goal.returns-clause-read
 unfolding records_fault
-returns-clause-none g c bytes h ok =
-    first-none (record_fault c.args.zones.now bytes c.args.first) 0 c.args.count
-    (λ i from below. c.loop-j.invariant.none bytes h i (omega (arith, below, c.loop-j-test.false)))
+returns-clause-read g c bytes h =
+    let all : c.loop-j.j ≡ c.args.count = omega (arith, c.loop-j-test.false, c.loop-j.auto.j-end) in
+    goes_on _ _ _ _ _
+    (first-none (record_fault c.args.zones.now bytes c.args.first) 0 c.args.count (λ i from below. c.loop-j.invariant.none bytes h i (omega (arith, below, c.loop-j-test.false))))
+    (subst (λ (n : ℕ). IsReadTo bytes (record_byte c.args.first n) (g.S.Source.remaining c.loop-j.source)) all (c.loop-j.invariant.left bytes h))

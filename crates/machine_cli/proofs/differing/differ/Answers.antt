@@ -1,4 +1,4 @@
-use Rattle.std.proofs.Common.{subst}
+use Rattle.std.proofs.Common.{refl, subst}
 use Rattle.dump_file.specs.Dump.{DumpValue}
 use Rattle.command_kit.specs.Told.{RunResult}
 use Rattle.command_kit.specs.Told.{IsTold}
@@ -14,7 +14,7 @@ pub returns-in-Err-dump_of_input-clause-outcome : goal.returns-in-Err-dump_of_in
 returns-in-Err-dump_of_input-clause-outcome g c =
     let a : DumpValue = record { hw = c.in-Ok.dump.hw; memory = c.in-Ok.dump.frames } in
     let tell = c.tell-in-Err-dump_of_input in
-    lacks_second _ _ _ a tell.result _ _ _ _ c.in-Err-dump_of_input.stop (λ bytes left. c.in-Ok.ensures.dump bytes left) c.in-Err-dump_of_input.ensures.lacks tell.ensures.told
+    lacks_second _ _ _ _ a tell.result _ _ _ _ c.in-Err-dump_of_input.stop (λ bytes left. c.in-Ok.ensures.dump bytes left, c.in-Ok.ensures.end refl) c.in-Err-dump_of_input.ensures.lacks tell.ensures.told
 
 pub returns-clause-outcome : goal.returns-clause-outcome
 returns-clause-outcome g c =
@@ -23,5 +23,5 @@ returns-clause-outcome g c =
     let note : SinkView = record { taken = g.N.Sink.taken c.args.note.now; flushed = g.N.Sink.flushed c.args.note.now; faults = g.N.Sink.faults c.args.note.now } in
     let a : DumpValue = record { hw = c.in-Ok.dump.hw; memory = c.in-Ok.dump.frames } in
     let b : DumpValue = record { hw = c.in-Ok-dump_of_input.dump.hw; memory = c.in-Ok-dump_of_input.dump.frames } in
-    compared a b c.first_difference.result (λ bytes left. c.in-Ok.ensures.dump bytes left) (λ bytes left. c.in-Ok-dump_of_input.ensures.dump bytes left) (record { none = c.first_difference.ensures.none; first = c.first_difference.ensures.difference })
+    compared a b c.first_difference.result (λ bytes left. c.in-Ok.ensures.dump bytes left, c.in-Ok.ensures.end refl) (λ bytes left. c.in-Ok-dump_of_input.ensures.dump bytes left, c.in-Ok-dump_of_input.ensures.end refl) (record { none = c.first_difference.ensures.none; first = c.first_difference.ensures.difference })
     (subst (λ (t : RunResult). IsTold t tell.result out (record { taken = g.O.Sink.taken tell.new.out; flushed = g.O.Sink.flushed tell.new.out; faults = g.O.Sink.faults tell.new.out }) note (record { taken = g.N.Sink.taken tell.new.note; flushed = g.N.Sink.flushed tell.new.note; faults = g.N.Sink.faults tell.new.note })) c.told_of.ensures.told tell.ensures.told)
