@@ -202,8 +202,8 @@ def wrong_bodies():
     found, last = {}, set()
     for cells in rows("Which definition refuses which wrong body"):
         last = last if cells[1].startswith("the same") else names_of(cells[1])
-        for crate, name in re.findall(r"(\w+)/must-fail/([\w-]+)\.edit", cells[2]):
-            found.setdefault(f"{crate}/{name}", set()).update(last)
+        for crate, by_hand, name in re.findall(r"(?:(\w+)/must-fail|tools/edits/(\w+))/([\w-]+)\.edit", cells[2]):
+            found.setdefault(f"{crate or by_hand}/{name}", set()).update(last)
     return found
 
 
@@ -265,9 +265,9 @@ def page(edits, definitions):
         "# The edits that must be refused",
         "",
         f"Each of the {len(edits)} edits plants one mistake in a crate, and the prover must refuse it. The gate tries {len(edits) - by_hand} of them (crates/CRATE/must-fail,",
-        f"`rt must-fail CRATE`). The other {by_hand} (tools/edits) are of crates that only print, draw or convert, and the gate has no time for them: they are",
-        "tried before a release (`sh tools/try_edits.sh`). The name of an edit says the mistake. Its line says which item it lies in, and the clauses of the",
-        "contract around it, one of which the mistake would break.",
+        f"`rt must-fail CRATE`): those of the crates that the headline rests on. The gate has no time for the other {by_hand} (tools/edits): `sh tools/try_edits.sh CRATE`",
+        "tries them, after a crate has changed and before a release. The name of an edit says the mistake. Its line says which item it lies in, and the",
+        "clauses of the contract around it, one of which the mistake would break.",
         "`python3 tools/defended.py` writes this page from the edits, the sources and docs/PROOFS.md, and `--check` tells where they disagree.",
         "",
         "## Which edits defend a promise",

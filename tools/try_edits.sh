@@ -1,8 +1,8 @@
 #!/bin/sh
 # try_edits.sh [CRATE..]: tries the edits of tools/edits, or those of these crates, as the gate tries crates/CRATE/must-fail: the prover must refuse each.
 #
-# They are the edits of crates that only print, draw or convert. The gate has no time for them, so they are tried by hand after such a crate has
-# changed, and before each release. For that time they stand in the crates' folders must-fail. The status is that of `rt must-fail`.
+# The gate has time only for the edits of the crates that the headline rests on. These are tried by hand, after one of their crates has changed and
+# before each release. For that time they stand in the crates' folders must-fail. The status is that of `rt must-fail`.
 set -u
 cd "$(dirname "$0")/.." || exit 1
 # shellcheck disable=SC2046
