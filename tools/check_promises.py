@@ -14,7 +14,7 @@ TOP = pathlib.Path(__file__).resolve().parent.parent
 PAGE = TOP / "docs" / "PROOFS.md"
 PATH = re.compile(r"[\w/]+(?:\.antt|\.rt)|crates/[\w/]+|(?:src|specs|proofs|definitions/specs|run_laws/specs)(?:/[\w/]+)?")
 NAME = re.compile(r"`([\w\[\]-]+)`")
-EDIT = re.compile(r"(?:(\w+)/must-fail|tools/edits/(\w+))/([\w-]+)\.edit")
+EDIT = re.compile(r"(\w+)/must-fail/([\w-]+)\.edit")
 
 
 def rows():
@@ -70,8 +70,7 @@ def main():
         found, missing = files_of(where + " " + clause)
         edits = EDIT.findall(where)
         checked += len(edits)
-        paths = [f"crates/{crate}/must-fail/{name}.edit" if crate else f"tools/edits/{other}/{name}.edit" for crate, other, name in edits]
-        missing += [path for path in paths if not (TOP / path).exists()]
+        missing += [f"{crate}/must-fail/{name}.edit" for crate, name in edits if not (TOP / "crates" / crate / "must-fail" / f"{name}.edit").exists()]
         for word in missing:
             print(f"docs/PROOFS.md:{number}: {word} isn't there")
             wrong += 1

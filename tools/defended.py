@@ -1,7 +1,7 @@
 #!/usr/bin/env python3
 """defended.py [--check]: writes docs/EDITS.md, which edit defends which promise; with --check it says where the two disagree, status 1.
 
-An edit (crates/CRATE/must-fail/NAME.edit, or tools/edits/CRATE/NAME.edit) plants one mistake, which the prover must refuse. This script reads the text that it replaces, the
+An edit (crates/CRATE/must-fail/NAME.edit) plants one mistake, which the prover must refuse. This script reads the text that it replaces, the
 item that this lies in, and that item's contract; where the item has none, those of the nearest functions that call it. An edit is listed at a
 promise of docs/PROOFS.md that names its file, its item or a function that calls it, a definition which the contract cites, or one which the
 table of wrong bodies there has beside the edit.
@@ -13,7 +13,6 @@ from collections import Counter
 
 TOP = pathlib.Path(__file__).resolve().parent.parent
 CRATES = TOP / "crates"
-BY_HAND = TOP / "tools" / "edits"
 PROMISES = TOP / "docs" / "PROOFS.md"
 PAGE = TOP / "docs" / "EDITS.md"
 
@@ -202,8 +201,8 @@ def wrong_bodies():
     found, last = {}, set()
     for cells in rows("Which definition refuses which wrong body"):
         last = last if cells[1].startswith("the same") else names_of(cells[1])
-        for crate, by_hand, name in re.findall(r"(?:(\w+)/must-fail|tools/edits/(\w+))/([\w-]+)\.edit", cells[2]):
-            found.setdefault(f"{crate or by_hand}/{name}", set()).update(last)
+        for crate, name in re.findall(r"(\w+)/must-fail/([\w-]+)\.edit", cells[2]):
+            found.setdefault(f"{crate}/{name}", set()).update(last)
     return found
 
 
@@ -260,14 +259,11 @@ def table(head, lines):
 def page(edits, definitions):
     promised = [(promise.title, [edit for edit in edits if promise.is_defended_by(edit, definitions)]) for promise in promises()]
     held = {edit.path for _, found in promised for edit in found}
-    by_hand = sum(edit.path.is_relative_to(BY_HAND) for edit in edits)
     text = [
         "# The edits that must be refused",
         "",
-        f"Each of the {len(edits)} edits plants one mistake in a crate, and the prover must refuse it. The gate tries {len(edits) - by_hand} of them (crates/CRATE/must-fail,",
-        f"`rt must-fail CRATE`): those of the crates that the headline rests on. The gate has no time for the other {by_hand} (tools/edits): `sh tools/try_edits.sh CRATE`",
-        "tries them, after a crate has changed and before a release. The name of an edit says the mistake. Its line says which item it lies in, and the",
-        "clauses of the contract around it, one of which the mistake would break.",
+        f"Each of the {len(edits)} edits plants one mistake in a crate, and the gate passes only where the prover refuses it (`rt must-fail CRATE`). The name of",
+        "an edit says the mistake. Its line says which item it lies in, and the clauses of the contract around it, one of which the mistake would break.",
         "`python3 tools/defended.py` writes this page from the edits, the sources and docs/PROOFS.md, and `--check` tells where they disagree.",
         "",
         "## Which edits defend a promise",
@@ -312,8 +308,7 @@ def main(*words):
                 for item in items:
                     item.crate = crate.name
     beside = wrong_bodies()
-    folders = [(crate, folder) for crate in crates for folder in (crate.folder / "must-fail", BY_HAND / crate.name)]
-    edits = [Edit(path, crate, beside) for crate, folder in folders for path in sorted(folder.glob("*.edit"))]
+    edits = [Edit(path, crate, beside) for crate in crates for path in sorted((crate.folder / "must-fail").glob("*.edit"))]
     text = page(edits, definitions)
     if words == ("--check",):
         if not PAGE.exists() or PAGE.read_text() != text:
