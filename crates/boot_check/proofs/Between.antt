@@ -122,14 +122,14 @@ none_found content faults blocks header page asked read none = (
   inr (inr (page, (read, subst (λ (m : Option Mark). FindsMark content blocks header 0 faults page m None) (sym none) refl))),
 )
 
--- its image is compressed
+-- the header block marks a compressed image
 pub compressed_found : (content : Option Content) (faults blocks header : ℕ) (page : List ℕ) (mark : Mark) → IsReadFrom content header (Ok page) → mark_in (area_kind page) ≡ Some mark → is_compressed mark.flags ≡ true → IsAll content faults blocks header (header ∷ []) (header_findings blocks header mark.flags page) Checked
 compressed_found content faults blocks header page mark read marked compressed =
     let all = header_findings blocks header mark.flags page in
     let image : FindsImage content blocks header 0 faults mark page all = header_found content blocks header 0 faults mark page compressed in
     (inr (inr (page, (read, subst (λ (m : Option Mark). FindsMark content blocks header 0 faults page m (Some all)) (sym marked) image))), inl refl)
 
--- it isn't, and its names come next
+-- the marked image isn't compressed, and its names come next
 pub names_begin : (content : Option Content) (faults blocks header : ℕ) (page : List ℕ) (mark : Mark) (n : Names) (words : List ℕ) → IsReadFrom content header (Ok page) → mark_in (area_kind page) ≡ Some mark → is_compressed mark.flags ≡ false → n.limits ≡ limits_of blocks header (area_kind (taken_back page)) → n.format ≡ format_of mark.flags → HasNamed content faults mark.first n words [] [] → IsBetween content faults blocks header n words (header ∷ []) (header_findings blocks header mark.flags page)
 names_begin content faults blocks header page mark n words read marked plain limits format named = record {
   page = page;
@@ -142,7 +142,7 @@ names_begin content faults blocks header page mark n words read marked plain lim
   named = named;
 }
 
--- its read failed
+-- the read of the header block failed
 pub unread_found : (content : Option Content) (faults blocks header : ℕ) → IsAll content (faults + 1) blocks header (header ∷ []) (finding.HeaderUnread header ∷ []) Checked
 unread_found content faults blocks header = (inr (inl (refl, inl (omega arith))), inl refl)
 

@@ -20,7 +20,7 @@ use Rattle.boot_resume.specs.declared.stage.Stage.TheVariants as stage
 pub later_call : (m : Machine) (c : Call) (made : List Call) → IsTakenBack m made → IsTakenBack m (c ∷ made)
 later_call m c made begun = (c ∷ begun.0, ap (λ (x : List Call). c ∷ x) begun.1)
 
--- behind the first four calls
+-- after the first four calls
 pub begun_first : (m : Machine) (c : Call) (made : List Call) → c ≡ Sync → made ≡ Write m.header ∷ Read m.header ∷ Sync ∷ [] → HasBegun m (c ∷ made)
 begun_first m c made sync is =
     subst (λ (y : Call). HasBegun m (y ∷ made)) (sym sync)
@@ -29,7 +29,7 @@ begun_first m c made sync is =
 pub newest_first : (m : Machine) (c : Call) (made : List Call) → c ≡ Sync → made ≡ Write m.header ∷ Read m.header ∷ Sync ∷ [] → newest (c ∷ made) ≡ None
 newest_first m c made sync is = ap (λ (y : Call). newest (y ∷ made)) sync ∙ ap newest is
 
--- behind a read
+-- after a read
 pub begun_read : (m : Machine) (c : Call) (made : List Call) → IsRead c → HasBegun m made → HasBegun m (c ∷ made)
 begun_read m (Read b) made read begun = (later_call m (Read b) made begun.0, begun.1)
 begun_read m Sync made read begun = absurd read
@@ -48,7 +48,7 @@ newest_read (Done n) made read = absurd read
 newest_read (Refused why) made read = absurd read
 newest_read (Failed call left) made read = absurd read
 
--- behind a page that was handed out
+-- after a page that was handed out
 pub begun_page : (m : Machine) (c : Call) (p : ℕ) (made : List Call) → c ≡ Page p → MayPlace m p (newest made) → HasBegun m made → HasBegun m (c ∷ made)
 begun_page m c p made is may begun =
     subst (λ (x : Call). HasBegun m (x ∷ made)) (sym is) (later_call m (Page p) made begun.0, (begun.0, (may, begun.1)))

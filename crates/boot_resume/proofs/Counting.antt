@@ -66,7 +66,7 @@ page_first m v k rest is = cond-true (eqb (k % 511) 0) (map_then m v (k / 511) (
 pub page_other : (m : Machine) (v : DiskImage) (k : ℕ) (rest : List Turn) → (k % 511 ≢ 0) → page_then m v k rest ≡ entry_then m v k rest
 page_other m v k rest not = cond-false (eqb (k % 511) 0) (map_then m v (k / 511) (entry_then m v k rest)) (entry_then m v k rest) (ne_eqb (k % 511) 0 not)
 
--- a map behind the first is the link of the one before
+-- a map after the first is the link of the one before
 pub map_at-link : (m : Machine) (v : DiskImage) (j i : ℕ) → j ≡ suc i → map_at m v j ≡ map_link (block v (map_at m v i))
 map_at-link m v j i is = ap (map_at m v) is
 

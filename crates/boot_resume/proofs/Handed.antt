@@ -259,7 +259,7 @@ number_page_refused m v old page k why c w is at fault =
     unless_some (page_cause m v (1 + old.given / 512)) why (asks (Read (page_at m v (1 + old.given / 512))) ∷ from_number m v old.given)
     (subst (λ i. page_cause m v i ≡ Some why) at some)
 
--- The same of a reading that has the same in these fields.
+-- The tally of a reading holds for another with the same values in these fields.
 
 pub tallied_as : (m : Machine) (v : DiskImage) (k : ℕ) (a r : Reading) → Tallied m v k a → r.saved ≡ a.saved → r.pages ≡ a.pages → r.given ≡ a.given → r.last ≡ a.last → r.with_data ≡ a.with_data → Tallied m v k r
 tallied_as m v k a r t saved pages given last with_data = record {

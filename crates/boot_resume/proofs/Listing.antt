@@ -18,7 +18,7 @@ or_else-none a b is = ap (λ x. or_else x b) is
 or_else-some : {A : Type 0} (a b : Option A) (x : A) → a ≡ Some x → or_else a b ≡ Some x
 or_else-some a b x is = ap (λ y. or_else y b) is
 
--- the first cause of one number more, and of all of them
+-- the first cause among one number more, and among all numbers
 pub first_cause-more : (m : Machine) (v : DiskImage) (j i : ℕ) → first_cause m v j i ≡ None → number_cause m v (j + i) ≡ None → first_cause m v j (suc i) ≡ None
 first_cause-more m v j zero before here =
     let same : j + 0 ≡ j = omega arith in

@@ -6,7 +6,7 @@ use Rattle.std.proofs.lemmas.List.{take-append-le}
 use Rattle.definitions.specs.Streams.{Takes, TakesAll, TakesFront}
 use Rattle.definitions.proofs.Pieces.{Takes-none, Takes-more}
 
--- the same bytes are taken, whatever they are a front of
+-- taking the same bytes of two texts is the same
 pub Takes-same : (j k : ℕ) (xs ys : List ℕ) (old new : Option (List ℕ)) → take j xs ≡ take k ys → Takes j xs old new → Takes k ys old new
 Takes-same j k xs ys None None e h = tt
 Takes-same j k xs ys None (Some new) e h = h
@@ -42,7 +42,7 @@ TakesFront-second xs ys old mid new p q =
     subst (λ (zs : List ℕ). Takes q.0 zs mid new) (sym (drop-append_seam xs ys)) q.2 in
     (length xs + q.0, omega (arith, q.1, length-append xs ys), Takes-more (length xs) q.0 (xs ++ ys) old mid new first second)
 
--- where a call succeeds a sink that was empty has taken just the text
+-- if a call succeeds, a sink that was empty has taken exactly the text
 pub on_ok : {T E P : Type 0} (r : Result T E) → IsOk r → OnOk r P → P
 on_ok (Ok x) ok h = h
 on_ok (Err e) ok h = absurd (let none : false ≡ true = ok in grind (arith, none))

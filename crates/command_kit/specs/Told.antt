@@ -7,7 +7,7 @@ use Rattle.command_kit.specs.declared.status.Status.{Status}
 use Rattle.command_kit.specs.declared.status.Status.TheVariants.{Stream, Done, Words, Device, Memory}
 use Rattle.command_kit.specs.View.{SinkView}
 
--- The ends.
+-- The results of runs.
 
 -- a status, the text on out and the text on note
 pub record RunResult : Type 0 where
@@ -19,11 +19,11 @@ pub record RunResult : Type 0 where
 abbrev pub line : List ℕ → List ℕ
 line text = text ++ 10 ∷ []
 
--- all is done, and nothing is left to say
+-- done, with nothing to print
 abbrev pub done : RunResult
 done = record { status = Done; out = []; note = [] }
 
--- the words don't parse, which this text says
+-- the words don't parse, as this text says
 abbrev pub unparsed : List ℕ → RunResult
 unparsed text = record { status = Words; out = []; note = text }
 
@@ -40,7 +40,7 @@ pub record IsPrinted (text : List ℕ) (old new : SinkView) : Type 0 where
   pub whole : TakesAll text old.taken new.taken
   pub flushed : IsFlushed new.taken new.flushed
 
--- a front of it is taken, and the sink has failed
+-- a prefix of the text is taken, and the sink has failed
 pub record FailsToPrint (text : List ℕ) (old new : SinkView) : Type 0 where
   pub front : TakesFront text old.taken new.taken
   pub risen : HasRisen old.faults new.faults
@@ -48,7 +48,7 @@ pub record FailsToPrint (text : List ℕ) (old new : SinkView) : Type 0 where
 abbrev pub IsTried : List ℕ → SinkView → SinkView → Type 0
 IsTried text old new = IsPrinted text old new ⊎ FailsToPrint text old new
 
--- what is noted, once, where out failed
+-- the note that is tried, once, if out failed
 abbrev pub sink_note : List ℕ
 sink_note = line (codes "sink fault")
 
@@ -58,7 +58,7 @@ pub record IsToldWhole (told : RunResult) (status : Status) (out out' note note'
   pub out_whole : IsPrinted told.out out out'
   pub note_whole : IsPrinted told.note note note'
 
--- out failed in its text, and that is noted; or note failed in its own
+-- out failed in its text, and a note of that was tried; or note failed in its own text
 abbrev pub AreFronts : RunResult → SinkView → SinkView → SinkView → SinkView → Type 0
 AreFronts told out out' note note' =
     (FailsToPrint told.out out out' × IsTried sink_note note note')

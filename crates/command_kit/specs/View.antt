@@ -1,4 +1,4 @@
--- What the outside tells of itself at a moment. A meaning that it doesn't tell is `None`.
+-- What the disk, the sinks and the source tell of themselves at a moment. What they don't tell is `None`.
 use Rattle.std.specs.Prelude.{ℕ, List, Option}
 use Rattle.definitions.specs.Disk.{Content}
 use Rattle.byte_streams.specs.declared.sink.Sink as sink

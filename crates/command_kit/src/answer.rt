@@ -21,7 +21,7 @@ impl Answer {
     ghost use Rattle.command_kit.specs.AnswerOf.{told_by};
     ghost use Rattle.command_kit.specs.Told.{IsTold};
 
-    /// Prints both texts. Where a sink fails the status is `Stream`, and `sink fault` is tried as a note.
+    /// Prints both texts. If a sink fails the status is `Stream`; if that is `out`, `sink fault` is tried as a note.
     pub fn tell<O: Sink, N: Sink>(&self, out: &mut O, note: &mut N) -> Status
         requires { self.now.status ≢ Status.Stream }
         ensures told { IsTold (told_by self.now) result
@@ -43,7 +43,7 @@ impl Answer {
     }
 }
 
-/// Memory was refused.
+/// Returns the answer of a run that was refused memory.
 pub fn no_memory() -> Answer
     ensures told { told_by result ≡ memory_told }
     ensures status { result.status ≡ Status.Memory }
@@ -57,7 +57,8 @@ pub fn no_memory() -> Answer
     }
 }
 
-/// Prints a text on each output. Where a sink fails the status is `Stream`, and `sink fault` is tried as a note.
+/// Prints a text on each output. If a sink fails the status is `Stream`; if that is `out`, `sink fault` is tried as a
+/// note.
 pub fn tell<O: Sink, N: Sink>(
     status: Status,
     text: &[u8],
@@ -85,7 +86,7 @@ pub fn tell<O: Sink, N: Sink>(
     status
 }
 
-/// Writes a text to its end, and flushes.
+/// Writes the whole text, and flushes.
 pub fn print<S: Sink>(sink: &mut S, text: &[u8]) -> Result<(), Failed>
     ensures printed { OnOk result (IsPrinted text.now
         (sink_view S.Sink sink.old)

@@ -20,7 +20,7 @@ impl Status {
     ghost use Rattle.std.specs.Prelude.{◌≡◌};
     ghost use Rattle.command_kit.specs.ExitStatus.{exit_status};
 
-    /// The exit status, 0 to 6.
+    /// Returns the exit status, 0 to 6.
     pub fn code(self) -> u8
         ensures { result ≡ exit_status self }
     {

@@ -64,7 +64,7 @@ no_blocks h (t ∷ ts) = no_blocks h ts
 pub on_writes : (h : Hardware) (m : Memory) (v : disk.DiskImage) (b : ℕ) → Contains (blocks_written h (on (machine_of_dump h m v))) b → ⊥
 on_writes h m v b in' = none_in b (subst (λ (xs : List ℕ). Contains xs b) (no_blocks h (range_with_len 1 64)) in')
 
--- nor does it where cached page frames are dropped
+-- a machine that drops cached page frames writes nothing either
 pub save_writes : (h : Hardware) (m : Memory) (size : Option ℕ) (v : disk.DiskImage) (b : ℕ) → Contains (blocks_written h (on (machine_to_save h m size v))) b → ⊥
 save_writes h m None v b in' = on_writes h m v b in'
 save_writes h m (Some want) v b in' = on_writes h m v b in'
@@ -79,12 +79,12 @@ untouched_at v p q same is = record {
 
 -- The steps of a boot.
 
--- it has made k of its two
+-- the boot has made k of its two steps
 pub record BootsAt (h : Hardware) (m : Memory) (v : disk.DiskImage) (k : ℕ) (p : Point) : Type 0 where
   pub untouched : IsUntouched v p
   pub state : p.state ≡ booting Kept m (held_at_first h v) k
 
--- its call of the disk has failed
+-- the boot's call of the disk has failed
 pub record FailsAt (v : disk.DiskImage) (p : Point) : Type 0 where
   pub untouched : IsUntouched v p
   pub fault : EndsInFault p.reply

@@ -1,4 +1,4 @@
--- What the plain machine answers to a boot with a dump's memory, and to the hibernation after it.
+-- What the plain machine replies to a boot with a dump's memory, and to the hibernation after it.
 use Rattle.std.proofs.Common.{◌≡◌, ◌⊎◌, inl, inr, zero, suc, Bool, true, false, cond, List, ◌∷◌, [], Option, Some, None, length, ◌-◌, ℕ, refl, sym, ap, subst, arith, Contains}
 use Rattle.definitions.specs.Disk as disk
 use Rattle.page_core.specs.declared.format.Format.{Format}
@@ -71,7 +71,7 @@ hibernation_begins h v a f r b step =
       | inr begun ↦ (let is = one_outcome (reply.More 0 (hibernate_steps i)) r (hibernating false i a 0) b begun.1 in inr (begun.0, is.0, is.1))
     ]
 
--- A machine of which no task has an operation drops what is cached.
+-- A machine with no unfinished operation of a task drops what is cached.
 pub shrinks : (h : Hardware) (v : disk.DiskImage) (a : Running) (want : ℕ) (r : Reply) (b : State) → busy a ≡ None → Step h v (on a) (event.Shrink want) r b → b ≡ on (record a { memory = drop_memory h a.memory want })
 unfolding outcomes refusal
 shrinks h v a want r b idle step =

@@ -44,7 +44,7 @@ at_first p = point reply.Idle true p
 first_untouched : (h : Hardware) (m : Memory) (v : disk.DiskImage) (blocks : ℕ) (p : Situation) → Begins h m v blocks p → IsUntouched v (at_first p)
 first_untouched h m v blocks p is = untouched_first blocks v (at_first p) is.content is.whole
 
--- It stops in its boot.
+-- The run stops in its boot.
 
 unsynced : (h : Hardware) (m : Memory) (v : disk.DiskImage) (blocks : ℕ) (a : Running) (f : Format) (ended : Ended) (told : Option disk.Content) (p : Situation) (begun : Reply) (through : List Situation) → Begins h m v blocks p → goes_on ended.reply ≡ false → (ended.failed ≡ true) ↔ TellsNewFault ended.reply →
     AreTurns h p (event.Boot Kept ∷ event.Step actor.Core ∷ []) (begun ∷ ended.reply ∷ []) through → told ≡ Some (end_of p through).content → HasHibernated h a f v ended told
@@ -147,7 +147,7 @@ ready h m v blocks (Some want) events replies p begun synced booted (r ∷ []) t
     shrunk_by h m v blocks want events replies r up.last up.at up.later p through is.whole up.up up.turns up.end up.inside
 ready h m v blocks (Some want) events replies p begun synced booted (r ∷ s ∷ shrunk) through is goes boots' sizes turns = absurd (omega arith)
 
--- Then it hibernates.
+-- Then the machine hibernates.
 
 module _ (h : Hardware) (m : Memory) (v : disk.DiskImage) (size : Option ℕ) (f : Format) where
   -- after its event nothing is written

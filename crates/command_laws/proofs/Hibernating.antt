@@ -1,4 +1,4 @@
--- A hibernation step by step: what it is at after so many, and that it ends.
+-- A hibernation step by step: what it is doing after n steps, and that it ends.
 use Rattle.std.proofs.Common.{◌≡◌, inl, inr, ◌≤◌, ◌<◌, ℕ, ◌+◌, zero, suc, Bool, true, false, List, [], Option, Some, None, refl, sym, subst, arith, Contains}
 use Rattle.std.specs.List.{AllByRecursion}
 use Rattle.std.proofs.lemmas.Bool.{cases_lt, false≢true}

@@ -1,4 +1,4 @@
--- The steps of a resume, from its event to what it answers at the end.
+-- The steps of a resume, from its event to its last reply.
 use Rattle.std.proofs.Common.{◌≡◌, ◌≢◌, ◌⊎◌, inl, inr, ◌≤◌, ℕ, zero, suc, nat_eq, Bool, true, false, cond, not, [], Option, Some, None, slice_get, unwrap_or, refl, sym, ap, ◌∙◌, subst, arith, Contains}
 use Rattle.std.specs.Cmp.Lexicographic.{pointwise}
 use Rattle.std.proofs.lemmas.Bool.{false≢true}
@@ -92,7 +92,7 @@ pub after_steps : (h : Hardware) (m : Memory) (check : IdentCheck) (v : disk.Dis
 after_steps h m check v blocks zero start end whole is at are = subst (IsAfter h m check v 0) (sym are) (after_none h m check v start is at)
 after_steps h m check v blocks (suc n) start end whole is at (mid, are, goes, turn) = after_more h m check v blocks n mid end whole (after_steps h m check v blocks n start mid whole is at are) goes turn
 
--- There are few of them.
+-- The steps of a resume are few.
 
 -- where the header block is refused there are two at most
 second_is : (h : Hardware) (m : Memory) (check : IdentCheck) (v : disk.DiskImage) (r : Reply) → header_cause h v ≡ Some r → slice_get (trace_of h m check v) 1 ≡ Some r

@@ -1,4 +1,4 @@
--- A resume into a dump's memory step by step: what it is at after so many, and that it ends.
+-- A resume into a dump's memory step by step: what it is doing after n steps, and that it ends.
 use Rattle.std.proofs.Common.{◌≡◌, ◌⊎◌, inl, inr, ◌<◌, ℕ, ◌+◌, zero, suc, ltb, Bool, true, false, cond, ◌||◌, not, List, ◌∷◌, [], Option, Some, None, slice_get, unwrap_or, refl, sym, ap, ◌∙◌, subst, arith, Contains}
 use Rattle.std.specs.List.{AllByRecursion}
 use Rattle.std.proofs.lemmas.Bool.{cond-true, false≢true}

@@ -1,4 +1,4 @@
--- The steps of a hibernation, from its event to what it answers at the end.
+-- The steps of a hibernation, from its event to its last reply.
 use Rattle.std.proofs.Common.{◌≡◌, ◌⊎◌, inl, inr, ◌≤◌, ℕ, ◌+◌, zero, suc, Bool, true, false, cond, length, filter, List, ◌∷◌, [], Option, Some, None, unwrap_or, refl, sym, ap, ◌∙◌, subst, arith, Contains}
 use Rattle.std.specs.List.{AllByRecursion}
 use Rattle.std.proofs.lemmas.Bool.{false≢true}
@@ -179,7 +179,7 @@ undo_on : (r : Reply) → IsUndo r → goes_on r ≡ true
 undo_on (reply.Undo call k) is = refl
 undo_on _ is = absurd is
 
--- at the end it shows as a fault
+-- at the end of the hibernation a failed call shows as a fault
 fault_at_end : (r : Reply) → goes_on r ≡ false → ShowsFault r → EndsInFault r
 fault_at_end r over (inl is) = is
 fault_at_end r over (inr undo) = absurd (false≢true (sym over ∙ undo_on r undo))
@@ -189,7 +189,7 @@ exactly A r true (inl is) shows = inr (shows refl, refl)
 exactly A r false (inl is) shows = inl (is, refl)
 exactly A r failed (inr fault) shows = inr fault
 
--- It has few steps.
+-- A hibernation has few steps.
 
 one_more : {A : Type 0} (b : Bool) (x : A) (ys : List A) (n : ℕ) → length ys ≤ n → length (cond b (x ∷ ys) ys) ≤ n + 1
 one_more true x ys n few = omega arith
@@ -227,7 +227,7 @@ answer_at : (h : Hardware) (a : Running) (f : Format) (v : disk.DiskImage) (r : 
 answer_at h a f v r b failed none (inl is) = inl (is.0 ∙ sym (ap (λ (o : Option Reply). unwrap_or o (reply.Hibernated (n_of (image_to_save h a f)))) none))
 answer_at h a f v r b failed none (inr fault) = inr fault
 
--- It was not refused.
+-- The hibernation was not refused.
 pub saves : (h : Hardware) (a : Running) (f : Format) (v : disk.DiskImage) (shown : WorldView) (start : Point) (ended : Ended) (told : Option disk.Content) (now : disk.Content) → told ≡ Some now → start.failed ≡ false → IsUntouched v start → refusal h (on a) (event.Hibernate f) ≡ None →
     IsAt (image_to_save h a f) a 0 start.reply start.state start.failed → HasGone h start ended shown now → HasHibernated h a f v ended told
 saves h a f v shown start ended told now says unfailed is none at gone =
@@ -246,7 +246,7 @@ saves h a f v shown start ended told now says unfailed is none at gone =
       refused = λ r refused b. absurd (none-some r (sym none ∙ refused));
     }
 
--- It was refused.
+-- The hibernation was refused.
 pub refused : (h : Hardware) (a : Running) (f : Format) (v : disk.DiskImage) (shown : WorldView) (q : Reply) (start : Point) (ended : Ended) (told : Option disk.Content) (now : disk.Content) → told ≡ Some now → start.failed ≡ false → IsUntouched v start → refusal h (on a) (event.Hibernate f) ≡ Some q → start.reply ≡ q → HasGone h start ended shown now → HasHibernated h a f v ended told
 refused h a f v shown q start ended told now here unfailed is says same gone =
     let refuses = refusal_refuses h f a q says in
@@ -264,7 +264,7 @@ refused h a f v shown q start ended told now here unfailed is says same gone =
       refused = λ r refused b. untouched.unwritten b;
     }
 
--- A call failed while it booted.
+-- A call failed while the machine booted.
 pub failed_early : (h : Hardware) (a : Running) (f : Format) (v : disk.DiskImage) (ended : Ended) (told : Option disk.Content) (p : Point) → told ≡ Some p.content → IsUntouched v p → EndsInFault ended.reply → ended.failed ≡ true → HasHibernated h a f v ended told
 failed_early h a f v ended told p says untouched fault failed = record {
   content = p.content;

@@ -1,4 +1,4 @@
--- A run's situations as points, each with what its reply tells of the disk.
+-- A run's situations as points, each with what its reply says of the disk.
 use Rattle.std.proofs.Common.{◌≡◌, ◌⊎◌, inl, inr, ◌↔◌, ℕ, zero, suc, Bool, true, false, ◌||◌, List, [], ◌∷◌, length, refl, sym, subst}
 use Rattle.std.proofs.lemmas.Bool.{false≢true}
 use Rattle.definitions.specs.Disk as disk
@@ -91,7 +91,7 @@ steps_before : (h : Hardware) (n : ℕ) (start mid end : Point) → goes_on star
 steps_before h zero start mid end goes turn are = (start, refl, goes, subst (IsTurn h (event.Step actor.Core) start) (sym are) turn)
 steps_before h (suc n) start mid end goes turn (last, are, on', step) = (last, steps_before h n start mid last goes turn are, on', step)
 
--- The steps of an operation: whether a call has failed at the end is what the replies tell.
+-- The steps of an operation: the replies say whether a call has failed at the end.
 pub record AreWalked (h : Hardware) (p : Situation) (begun : Reply) (failed : Bool) (rest : List Reply) (through : List Situation) : Type 0 where
   pub fails : Bool
   pub are : AreSteps h (length rest) (point begun failed p) (point (last_reply begun rest) fails (end_of p through))

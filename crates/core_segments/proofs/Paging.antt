@@ -44,7 +44,7 @@ no_bytes bytes s p none =
       | inr ge ↦ byte_above bytes s (4096 * p + k) (omega (arith, none, lt, ge))
     ]))
 
--- these bytes are in the file
+-- these bytes of the page are in the file
 pub some_bytes : (bytes : List ℕ) (s : Segment) (p start offset from to : ℕ) → start ≡ 4096 * p → from ≡ from_address s p → to ≡ to_address s p → from < to →
     offset ≡ s.offset + (from - s.address) → offset + (to - from) ≤ length bytes →
     with_bytes zero_page (from - start) (bytes_at (to - from) bytes offset) ≡ page_of bytes s p

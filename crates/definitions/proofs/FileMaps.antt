@@ -4,7 +4,7 @@ use Rattle.std.proofs.lemmas.Bool.{cases_lt, cases_order, cond-true, cond-false,
 use Rattle.definitions.specs.Slots.{block_of, extent_at, extent_end, slots_before, slots_of}
 use Rattle.definitions.specs.FileMaps.{IsInOrder, IsFileMap, LieApart, AreFew, IsExtentFault}
 
--- The last extent that doesn't start above a slot tells its block.
+-- A slot's block is given by the last extent that doesn't start above the slot.
 pub block_of-extent : (extents : List (ℕ × ℕ × ℕ)) (i s : ℕ) → i < length extents → ((j : ℕ) → j < i → (extent_at extents (suc j)).0 ≤ s) → (suc i < length extents → s < (extent_at extents (suc i)).0) → block_of extents s ≡ (extent_at extents i).2 + (s - (extent_at extents i).0)
 block_of-extent [] i s within below above = absurd (omega arith)
 block_of-extent (e ∷ []) zero s within below above = refl
@@ -46,7 +46,7 @@ has_slot extents (suc n) s each le lt =
 pub extent_of_slot : (extents : List (ℕ × ℕ × ℕ)) (slots s : ℕ) → IsFileMap extents slots → s < slots → (i : ℕ) × HasSlot extents i s
 extent_of_slot extents slots s h lt = has_slot extents (length extents) s h.each (omega arith) (let covers = h.covers in omega arith)
 
--- its block
+-- the block of a slot of extent i
 pub block_of-slot : (extents : List (ℕ × ℕ × ℕ)) (slots i s : ℕ) → IsFileMap extents slots → HasSlot extents i s → block_of extents s ≡ (extent_at extents i).2 + (s - (extent_at extents i).0)
 block_of-slot extents slots i s h at =
     let within = at.within in
@@ -110,7 +110,7 @@ no_fault extents slots at h fault = elim fault [
   | inr rest ↦ elim rest [ inl extent ↦ extent.3 (h.each at extent.1) | inr size ↦ size.3 h.covers ]
 ]
 
--- there is one at most
+-- extents have at most one fault
 pub same_fault : (extents : List (ℕ × ℕ × ℕ)) (slots a b : ℕ) → IsExtentFault extents slots a → IsExtentFault extents slots b → a ≡ b
 same_fault extents slots a b (inl h) (inl g) = omega (arith, h.1, g.1)
 same_fault extents slots a b (inl h) (inr (inl g)) = absurd (few_enough extents h.0 g.0)

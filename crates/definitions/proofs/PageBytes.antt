@@ -122,7 +122,7 @@ number_at-with_number_apart m n page k v j h apart =
     number_at-same m (with_bytes page k (little_bytes n v)) page j
     (bytes_at-with_bytes_apart m page k (little_bytes n v) j (omega arith) further)
 
--- a number of bytes fits in them
+-- the number in n bytes fits in n bytes
 pub number_at-lt : (n : ℕ) (page : List ℕ) (k : ℕ) → AreBytes page → number_at n page k < 256 ^ n
 unfolding number_at
 number_at-lt n page k h = little_from-lt 0 n (drop k page) (λ i. rw (get_or-drop k page i 0) (h (k + i)))

@@ -98,7 +98,7 @@ unfolding with_number
 with_word-with_word_same page i v w n lt =
     with_bytes-with_bytes_same page (8 * i) (little_bytes 8 v) (little_bytes 8 w) (length-bytes_low_first 0 8 v ∙ sym (length-bytes_low_first 0 8 w)) (omega (arith, length-bytes_low_first 0 8 w))
 
--- The same byte over itself changes nothing.
+-- Writing the same byte over itself changes nothing.
 same_written : (n k m z : ℕ) → k + m ≤ n → with_bytes (replicate n z) k (replicate m z) ≡ replicate n z
 unfolding with_bytes
 same_written n k m z le =

@@ -14,7 +14,7 @@ pub runs_of-nil : runs_of [] ≡ []
 unfolding runs_of
 runs_of-nil = refl
 
--- The runs have just the numbers of the list.
+-- The runs have exactly the numbers of the list.
 
 numbers-in_front : (s : ℕ) (runs : List (ℕ × ℕ)) → numbers (in_front s runs) ≡ s ∷ numbers runs
 numbers-in_front s [] = refl

@@ -26,7 +26,7 @@ map_page-push entries link block lt =
     ap (λ page. with_word page 511 link) (page_of_words-push entries block)
     ∙ sym (with_word-with_word (page_of_words entries) (length entries) 511 block link (length-page_of_words entries (omega arith)) lt (omega arith))
 
--- what is put into it is read back
+-- an entry that is put into a map page is read back
 pub map_entry-map_page : (entries : List ℕ) (link k : ℕ) → length entries ≤ 511 → k < length entries → get_or entries k 0 < 2 ^ 64 → map_entry (map_page entries link) k ≡ get_or entries k 0
 unfolding map_page
 map_entry-map_page entries link k le lt fits =

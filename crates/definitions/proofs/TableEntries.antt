@@ -123,7 +123,7 @@ entry_at-with_entries frames table n (k ∷ ks) v j pages has fits below this =
     entry_at-with_entries (with_entry frames table k v) table n ks v j (IsPage-with_entry frames table k v pages) (HasTable-with_entry frames table n k v has) fits
     (λ i in'. below i (Contains-tail k ks i in')) next
 
--- those that were set are read back
+-- the entries that were set read as v
 pub entry_at-with_entries_same : (frames : List (List ℕ)) (table n : ℕ) (ks : List ℕ) (v j : ℕ) → All IsPage frames → HasTable frames table n → v < 2 ^ 32 → ((k : ℕ) → Contains ks k → k < n) → Contains ks j → entry_at (with_entries frames table ks v) table j ≡ v
 entry_at-with_entries_same frames table n ks v j pages has fits below in' = entry_at-with_entries frames table n ks v j pages has fits below (inr in')
 

@@ -1,9 +1,9 @@
--- Bytes of a block. A block of the device and the content of a page frame are both a page: a list of 4096 bytes.
--- Numbers lie in it little-endian (a 64-bit little-endian kernel's structures, as it writes them).
+-- Bytes of a page. A block of the device and the content of a page frame are both pages: lists of 4096 bytes.
+-- Numbers in a page are little-endian, as a 64-bit little-endian kernel writes its structures.
 use Rattle.std.specs.Prelude.{◌≡◌, ℕ, ◌+◌, ◌*◌, ◌<◌, ◌≤◌, List, ◌++◌, length, take, drop, slice_index, replicate}
 use Rattle.byteorder.specs.Endian.{little_number, little_bytes}
 
--- each is a byte
+-- each element is a byte
 abbrev pub AreBytes : List ℕ → Type 0
 AreBytes bytes = (i : ℕ) → slice_index bytes i < 256
 
@@ -15,7 +15,7 @@ IsPage page = length page ≡ 4096
 unfoldable pub zero_page : List ℕ
 zero_page = replicate 4096 0
 
--- the page whose bytes are all the same
+-- the page with this byte at every offset
 unfoldable pub filled_page : ℕ → List ℕ
 filled_page byte = replicate 4096 byte
 
@@ -27,7 +27,7 @@ bytes_at n page k = take n (drop k page)
 unfoldable pub with_bytes : List ℕ → ℕ → List ℕ → List ℕ
 with_bytes page k bytes = take k page ++ bytes ++ drop (k + length bytes) page
 
--- the number of n bytes at offset k
+-- the number in the n bytes at offset k
 unfoldable pub number_at : ℕ → List ℕ → ℕ → ℕ
 number_at n page k = little_number n (drop k page)
 
@@ -43,7 +43,7 @@ word page i = number_at 8 page (8 * i)
 abbrev pub with_word : List ℕ → ℕ → ℕ → List ℕ
 with_word page i v = with_number 8 page (8 * i) v
 
--- two pages agree, but for bytes from `start` up to before `end`
+-- the two lists agree, except for the bytes from `start` up to but not including `end`
 pub record AgreeBut (start end : ℕ) (xs ys : List ℕ) : Type 0 where
   pub size : length xs ≡ length ys
   pub before : (i : ℕ) → i < start → slice_index xs i ≡ slice_index ys i

@@ -1,11 +1,11 @@
--- What a disk holds, and what a power cut may make of it. A sector is 512 bytes, and block b is the sectors 8b to
--- 8b+7. The disk keeps a sector whole: a cut leaves, for each, one of the contents that it may have.
+-- What a disk holds, and what a power cut may leave of it. A sector has 512 bytes, and block b consists of the sectors
+-- 8b to 8b+7. The disk keeps a sector whole: a cut leaves, for each sector, one of its candidates.
 use Rattle.std.specs.Prelude.{◌≡◌, ℕ, ◌+◌, ◌*◌, ◌^◌, ◌-◌, ◌<◌, ◌≤◌, ◌⊎◌, List, [], ◌∷◌, length, map, take, drop, min}
 use Rattle.std.specs.Prelude.{Contains, All, Option, Some, None, slice_index_or}
 use Rattle.std.specs.List.{concat}
 use Rattle.definitions.specs.Bytes.{bytes_at}
 
--- A sector: what a read gives, and what a cut may leave.
+-- A sector: the bytes that a read gives, and the candidates, one of which a cut leaves.
 pub record Sector : Type 0 where
   pub live : List ℕ
   pub candidates : List (List ℕ)
@@ -34,16 +34,16 @@ pub record IsContent (blocks : ℕ) (c : Content) : Type 0 where
 abbrev pub sector : Content → ℕ → Sector
 sector c s = slice_index_or c s no_sector
 
--- the image as the disk reads
+-- the image that reads give
 abbrev pub as_it_reads : Content → DiskImage
 as_it_reads c = map (λ s. s.live) c
 
--- a choice of one candidate for each sector
+-- v has, for each sector, one of its candidates
 pub record IsImage (c : Content) (v : DiskImage) : Type 0 where
   pub size : length v ≡ length c
   pub chosen : (s : ℕ) → s < length c → Contains (sector c s).candidates (slice_index_or v s [])
 
--- the content of a disk whose one image is v
+-- the content of a disk whose only image is v
 abbrev pub settled : DiskImage → Content
 settled v = map (λ bytes. record { live = bytes; candidates = bytes ∷ [] }) v
 
@@ -51,9 +51,9 @@ settled v = map (λ bytes. record { live = bytes; candidates = bytes ∷ [] }) v
 unfoldable pub block : DiskImage → ℕ → List ℕ
 block v b = concat (take 8 (drop (8 * b) v))
 
--- The calls of a disk, by what they make of its content.
+-- The calls of a disk, as relations between its content before and after.
 
--- each sector of the other blocks is as before
+-- each sector outside block b is as before
 pub record SameOutside (b : ℕ) (old new : Content) : Type 0 where
   pub size : length new ≡ length old
   pub below : (s : ℕ) → s < 8 * b → sector new s ≡ sector old s
@@ -68,7 +68,7 @@ pub record TakesBytes (bytes : List ℕ) (old new : Sector) : Type 0 where
 abbrev pub sector_bytes : List ℕ → ℕ → List ℕ
 sector_bytes page j = bytes_at 512 page (512 * j)
 
--- each sector of block b takes its bytes of the page
+-- a write: each sector of block b takes its bytes of the page
 pub record Writes (b : ℕ) (page : List ℕ) (old new : Content) : Type 0 where
   pub others : SameOutside b old new
   pub within : (j : ℕ) → j < 8 → TakesBytes (sector_bytes page j) (sector old (8 * b + j)) (sector new (8 * b + j))
@@ -80,44 +80,44 @@ pub record FailsToWrite (b : ℕ) (page : List ℕ) (old new : Content) : Type 0
       (sector new (8 * b + j) ≡ sector old (8 * b + j))
       ⊎ TakesBytes (sector_bytes page j) (sector old (8 * b + j)) (sector new (8 * b + j))
 
--- the live bytes are the one candidate of each sector
+-- a sync: the live bytes of each sector are its only candidate
 abbrev pub Syncs : Content → Content → Type 0
 Syncs old new = new ≡ settled (as_it_reads old)
 
--- one image of the disk is from now on its only one
+-- a restart: one of the disk's images is its only image from now on
 abbrev pub Restarts : Content → Content → Type 0
 Restarts old new = (v : DiskImage) × IsImage old v × (new ≡ settled v)
 
--- What a call does to the content of a disk that tells it. Whether the disk tells its content doesn't change.
+-- What a call does to the content of a disk, if the disk tells it. Whether the disk tells its content doesn't change.
 abbrev pub Changes : (Content → Content → Type 0) → Option Content → Option Content → Type 0
 Changes R None None = Unit {0}
 Changes R None (Some new) = ⊥
 Changes R (Some old) None = ⊥
 Changes R (Some old) (Some new) = R old new
 
--- Moments, of a disk that tells them: a clock, and the images that a crash since a moment might have left.
+-- Moments, for a disk that tells them: a clock, and the images that a crash since a moment might have left.
 
--- each sector has a candidate from before or from after
+-- each sector of v is a candidate from before or from after
 pub record IsMixture (old new : Content) (v : DiskImage) : Type 0 where
   pub size : length v ≡ length old
   pub each : (s : ℕ) → s < length v → Contains (sector old s).candidates (slice_index_or v s [])
       ⊎ Contains (sector new s).candidates (slice_index_or v s [])
 
--- Time goes on over a call: a crash since t might have left what it might have left before the call, or,
--- sector by sector, what a crash just before or just after the call may leave.
+-- Time passes during a call: a crash since t might have left what it might have left before the call, or a mixture,
+-- sector by sector, of what crashes right before and right after the call may leave.
 pub record Elapses (before now : ℕ) (past since : ℕ → DiskImage → Type 0) (old new : Content) : Type 0 where
   pub later : before ≤ now
   pub keeps : (t : ℕ) (v : DiskImage) → t ≤ before → past t v → since t v
   pub nothing_else : (t : ℕ) (v : DiskImage) → t ≤ before → since t v → past t v ⊎ IsMixture old new v
 
--- Counts of a disk, a source or a sink. They stay at 2^64-1, their last value.
+-- Counts of a disk, a source or a sink. They saturate at 2^64-1.
 abbrev pub last_count : ℕ
 last_count = 18446744073709551615
 
--- one more
+-- the count raised by one
 abbrev pub raised : ℕ → ℕ
 raised count = min (count + 1) last_count
 
--- the count has risen, or stands at its last value
+-- the count has risen, or is saturated
 abbrev pub HasRisen : ℕ → ℕ → Type 0
 HasRisen before now = (before < now) ⊎ (now ≡ last_count)

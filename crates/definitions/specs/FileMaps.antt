@@ -1,13 +1,14 @@
--- The file map of a swap file: which runs of its slots lie where on the device.
+-- The file map of a swap file: where on the device the runs of its slots lie.
 use Rattle.std.specs.Prelude.{◌≡◌, ◌⊎◌, ◌≤◌, ◌<◌, ℕ, ◌+◌, ◌-◌, List, length}
 use Rattle.definitions.specs.Slots.{extent_at, slots_before, slots_of}
 
--- no block of one extent is one of the other's
+-- the two extents share no block
 abbrev pub LieApart : ℕ × ℕ × ℕ → ℕ × ℕ × ℕ → Type 0
 LieApart e f = (e.2 + e.1 ≤ f.2) ⊎ (f.2 + f.1 ≤ e.2)
 
--- Extent i begins at slot 0 or where the one before ends, has a slot, ends at a block that a 32-bit number can name,
--- has no block of an extent before, and has block 0 for slot 0 alone, since that number means "no block" elsewhere.
+-- Extent i begins at slot 0 or where the extent before it ends, isn't empty, ends at a block number that fits 32 bits,
+-- and shares no block with an earlier extent. It begins at block 0 only if it begins at slot 0: for any other slot that
+-- number means "no block".
 pub record IsInOrder (extents : List (ℕ × ℕ × ℕ)) (i : ℕ) : Type 0 where
   pub start : (extent_at extents i).0 ≡ slots_before extents i
   pub some : 1 ≤ (extent_at extents i).1
@@ -26,8 +27,8 @@ pub record IsFileMap (extents : List (ℕ × ℕ × ℕ)) (slots : ℕ) : Type 0
   pub each : (i : ℕ) → i < length extents → IsInOrder extents i
   pub covers : slots_of extents ≡ slots
 
--- Why a list of extents is refused: it has too few or too many (index 0); or the extent with this index is the first
--- that is not in order; or all are in order and don't cover exactly the slots (the index after the last).
+-- Why a list of extents is refused: it has none or more than 64 (index 0); or the extent at this index is the first
+-- that isn't in order; or all are in order but don't cover exactly the slots (the index after the last).
 abbrev pub IsExtentFault : List (ℕ × ℕ × ℕ) → ℕ → ℕ → Type 0
 IsExtentFault extents slots at =
     (((length extents ≡ 0) ⊎ (64 < length extents)) × (at ≡ 0))

@@ -2,7 +2,7 @@
 use Rattle.std.specs.Prelude.{ℕ, ◌+◌, ◌-◌, ◌==◌, List, [], ◌∷◌, if◌then◌else◌}
 use Rattle.definitions.specs.Tables.{free_slots}
 
--- A number in front of runs: it joins the first run if that begins right after it.
+-- A number put in front of runs: it joins the first run if that run begins right after it.
 abbrev pub in_front : ℕ → List (ℕ × ℕ) → List (ℕ × ℕ)
 in_front s [] = (s, 1) ∷ []
 in_front s (run ∷ runs) = if run.0 == s + 1 then (s, run.1 + 1) ∷ runs else ((s, 1) ∷ run ∷ runs)

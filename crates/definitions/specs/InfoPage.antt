@@ -9,7 +9,7 @@ use Rattle.definitions.specs.declared.info.Info.{Info}
 use Rattle.definitions.specs.declared.info.Field.{Field}
 use Rattle.definitions.specs.declared.info.Field.TheVariants.{VersionCode, Sysname, Release, Version, Machine}
 
--- the info page of these fields; size is pages * 4096, cpus and all other bytes are 0
+-- the info page with these fields; size is pages * 4096, cpus and all other bytes are 0
 unfoldable pub info_page : Info → List ℕ
 info_page info =
     let names = with_number 4 (with_bytes zero_page 0 (concat info.ident.names)) 392 info.ident.version_code in
@@ -21,7 +21,7 @@ info_page info =
 unfoldable pub names_of : List ℕ → List (List ℕ)
 names_of page = map (λ j. bytes_at 65 page (65 * j)) (range_with_len 0 6)
 
--- what an info page says; size and cpus aren't read
+-- the fields of an info page; size and cpus aren't read
 unfoldable pub info_of : List ℕ → Info
 info_of page = record {
   ident = record { version_code = number_at 4 page 392; names = names_of page };
@@ -48,7 +48,7 @@ mismatch image own =
     else (if not (same_name 3 image own) then Some Version
     else (if not (same_name 4 image own) then Some Machine else None))))
 
--- its names have 65 bytes each, and its numbers fit their fields
+-- fields that an info page can hold: six names of 65 bytes each, and numbers that fit
 pub record IsInfo (info : Info) : Type 0 where
   pub version_code : info.ident.version_code < 2 ^ 32
   pub names : length info.ident.names ≡ 6

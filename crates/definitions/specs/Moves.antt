@@ -1,5 +1,5 @@
--- Pages moved over each other (struct pbe, the restore list of kernel/power/snapshot.c). A move is a pair (from, to) of
--- page frames; the sources are distinct, and so are the targets.
+-- Pages moved between page frames (struct pbe, the restore list of kernel/power/snapshot.c). A move is a pair (from,
+-- to) of page frames; the sources are distinct, and so are the targets. A page frame may be both a source and a target.
 use Rattle.std.specs.Prelude.{◌≡◌, ℕ, ◌+◌, ◌-◌, ◌==◌, ◌&&◌, ◌||◌, Bool, true, false, not, nat_lt, nat_le, List, [], ◌∷◌}
 use Rattle.std.specs.Prelude.{◌++◌, length, map, filter, reverse, Option, Some, None, if◌then◌else◌, zero, suc}
 use Rattle.std.specs.List.{list_any, find, range_with_len}
@@ -16,13 +16,14 @@ abbrev pub page_from : List (List ℕ) → Option Move → List ℕ → List ℕ
 page_from frames None page = page
 page_from frames (Some m) page = frame frames m.0
 
--- Assign(F, moves): at once, each target has the page that its source has in F; all other page frames are as in F.
+-- Assign(F, moves): all moves made at once. Each target has the page that its source has in F; all other page frames
+-- are as in F.
 unfoldable pub assigned : List (List ℕ) → List Move → List (List ℕ)
 assigned frames moves =
     map (λ p. page_from frames (move_into moves p) (frame frames p)) (range_with_len 0 (length frames))
 
--- [order of moves]: the order in which pending moves are emitted, so that made one after another they have the effect
--- of all at once.
+-- [order of moves]: the order in which pending moves are emitted, so that making them one after another has the effect
+-- of making them all at once.
 
 -- whether page frame p is the source of a pending move
 abbrev pub is_source : List Move → ℕ → Bool
@@ -34,7 +35,7 @@ is_target pending p = list_any (λ m. m.1 == p) pending
 abbrev pub without_target : List Move → ℕ → List Move
 without_target pending p = filter (λ m. not (m.1 == p)) pending
 
--- A pass has emitted moves, in order, and left others pending.
+-- The state of a pass: the moves emitted, in order, and those still pending.
 pub record Pass : Type 0 where
   pub emitted : List Move
   pub pending : List Move
@@ -46,7 +47,7 @@ emit pass (Some m) =
     if is_source pass.pending m.1 then pass
     else record { emitted = pass.emitted ++ m ∷ []; pending = without_target pass.pending m.1 }
 
--- over the targets in this order, each once
+-- tries the move into each of these targets, in this order
 abbrev pub pass_over : List ℕ → Pass → Pass
 pass_over [] pass = pass
 pass_over (p ∷ ps) pass = pass_over ps (emit pass (move_into pass.pending p))
@@ -71,7 +72,7 @@ paths_over (p ∷ ps) pass =
     paths_over ps (if is_target pass.pending p && not (is_source pass.pending p)
     then path_from (length pass.pending) (move_into pass.pending p) pass else pass)
 
--- A cycle through t: its page waits in the bounce frame, and the last move takes it from there.
+-- A cycle through t: the page of t waits in the bounce frame, and the last move takes it from there.
 abbrev pub with_bounce : ℕ → ℕ → Move → Move
 with_bounce bounce t m = if m.0 == t then (bounce, m.1) else m
 
@@ -99,8 +100,8 @@ sequence top bounce moves =
     (cycles_over bounce (ascending top)
     (paths_over (ascending top) (pass_over (ascending top) (pass_over (descending top) first)))).emitted
 
--- Joining: an entry is a run (from, to, count). From the first on, an entry joins the run before it where neither
--- touches the bounce frame and it continues that run, upwards or downwards.
+-- Joining: an entry is a run (from, to, count). In order, each move joins the run before it if neither touches the
+-- bounce frame and the move continues that run, upwards or downwards.
 abbrev pub Entry : Type 0
 Entry = ℕ × ℕ × ℕ
 

@@ -13,11 +13,11 @@ page_of_words words = with_bytes zero_page 0 (flat_map (little_bytes 8) words)
 abbrev pub meta_of : ℕ → ℕ
 meta_of n = (n + 511) / 512
 
--- what follows the last number where its page isn't full (BM_END_OF_MAP)
+-- the word after the last number, if the number page isn't full (BM_END_OF_MAP)
 abbrev pub end_value : ℕ
 end_value = 2 ^ 64 - 1
 
--- bit 63, which marks the number of a page of zeros that has no data page (this project's own)
+-- bit 63, which marks the number of a page of zeros that has no data page (an extension of this project)
 abbrev pub zero_bit : ℕ
 zero_bit = 2 ^ 63
 
@@ -25,7 +25,7 @@ zero_bit = 2 ^ 63
 abbrev pub marked_numbers : List ℕ → List ℕ → List ℕ
 marked_numbers frames zeros = map (λ p. if list_any (λ q. q == p) zeros then p + zero_bit else p) frames
 
--- number page k: its 512 of the numbers, and the end value where they don't fill it
+-- number page k: its up to 512 numbers, then the end value if they don't fill it
 unfoldable pub number_page : List ℕ → ℕ → List ℕ
 number_page numbers k = page_of_words (take 512 (drop (512 * k) (numbers ++ end_value ∷ [])))
 
@@ -33,7 +33,7 @@ number_page numbers k = page_of_words (take 512 (drop (512 * k) (numbers ++ end_
 abbrev pub number_pages : List ℕ → List (List ℕ)
 number_pages numbers = map (number_page numbers) (range_with_len 0 (meta_of (length numbers)))
 
--- the number after a word, and whether it is marked
+-- the page frame number in a word, without the mark in bit 63
 abbrev pub number_of_word : ℕ → ℕ
 number_of_word w = w % zero_bit
 

@@ -53,24 +53,25 @@ IsMarked page = sig_of page ≡ image_signature
 abbrev pub first_outside : ℕ → List ℕ → Option ℕ
 first_outside last bad = find (λ slot. (slot == 0) || nat_lt last slot) bad
 
--- the header block of a fresh area (mkswap): zeros, but for version 1, the last slot, the bad pages and the signature
+-- the header block of a fresh area (mkswap): zeros, except version 1, the last slot, the bad pages and the signature
 unfoldable pub area_page : ℕ → List ℕ → List ℕ
 area_page last bad =
     let numbers = with_number 4 (with_number 4 (with_number 4 zero_page 1024 1) 1028 last) 1032 (length bad) in
     with_bytes (with_bytes numbers 1536 (flat_map (little_bytes 4) bad)) 4086 area_signature
 
--- the flags that a mark carries: SF_HW_SIG is set where the machine has a signature
+-- the flags that a mark carries: SF_HW_SIG is set if the machine has a signature
 abbrev pub marked_flags : ℕ → ℕ → ℕ
 marked_flags flags hw = if hw == 0 then flags else bit_or flags 8
 
--- The block marked (mark_swapfiles): the signature moves to orig_sig, and the image's takes its place; the first map's
--- block, the flags and, where there is one, the hardware signature are set. All other bytes stay.
+-- The header block with a mark set (mark_swapfiles): the area's signature moves to orig_sig, and the image signature
+-- takes its place. The first map's block, the flags and, if there is one, the hardware signature are set. All other
+-- bytes stay.
 unfoldable pub marked : List ℕ → ℕ → ℕ → ℕ → List ℕ
 marked page first flags hw =
     let signed = with_bytes (with_bytes page 4076 (sig_of page)) 4086 image_signature in
     let flagged = with_number 4 (with_number 8 signed 4064 first) 4072 (marked_flags flags hw) in
     if hw == 0 then flagged else with_number 4 flagged 4056 hw
 
--- The block taken back (swsusp_check): orig_sig is the signature again. All other bytes stay.
+-- The header block with its mark taken back (swsusp_check): orig_sig is the signature again. All other bytes stay.
 unfoldable pub taken_back : List ℕ → List ℕ
 taken_back page = with_bytes page 4086 (orig_sig_of page)

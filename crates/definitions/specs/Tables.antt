@@ -21,16 +21,16 @@ entry_at frames table k = number_at 4 (frame frames (table + k / 1024)) (4 * (k 
 abbrev pub table_frame_count : ℕ → ℕ
 table_frame_count n = (n + 1023) / 1024
 
--- memory has the page frames of that table
+-- memory has all page frames of a table of n entries
 abbrev pub HasTable : List (List ℕ) → ℕ → ℕ → Type 0
 HasTable frames table n = table + table_frame_count n ≤ length frames
 
--- memory with that entry set to v
+-- memory with entry k of the table set to v
 unfoldable pub with_entry : List (List ℕ) → ℕ → ℕ → ℕ → List (List ℕ)
 with_entry frames table k v =
     with_frame frames (table + k / 1024) (with_number 4 (frame frames (table + k / 1024)) (4 * (k % 1024)) v)
 
--- memory with each of these entries set to v
+-- memory with each of these entries of the table set to v
 unfoldable pub with_entries : List (List ℕ) → ℕ → List ℕ → ℕ → List (List ℕ)
 with_entries frames table [] v = frames
 with_entries frames table (k ∷ ks) v = with_entries (with_entry frames table k v) table ks v
@@ -62,8 +62,8 @@ is_saveable flags =
     not (is_free flags) && not (has_flag flags 4) && not (has_flag flags 8)
     && not (has_flag flags 2 && (has_flag flags 16 || has_flag flags 32))
 
--- No flag above CACHE (64), the owner is at most 64, a free page frame has no other flag and no owner, and one with an
--- owner has no flag but CACHE.
+-- A well-formed entry: no flag above CACHE (64), and an owner of at most 64. A free page frame has no other flag and no
+-- owner, and an owned one has no flag but CACHE.
 pub record IsWellFormed (entry : ℕ) : Type 0 where
   pub flags : page_flags entry < 128
   pub owner : owner_of entry ≤ 64
@@ -72,7 +72,7 @@ pub record IsWellFormed (entry : ℕ) : Type 0 where
 
 -- What the tables say: which page frames are saveable or free, and which slots are free. All ascending.
 
--- the page frames that an image saves (saveable_page), of the zones, by the frame table
+-- the page frames of the zones that an image saves (saveable_page), by the frame table
 unfoldable pub saveable_frames : List (ℕ × ℕ) → ℕ → List (List ℕ) → List ℕ
 saveable_frames zones table frames = filter (λ p. is_saveable (page_flags (entry_at frames table p))) (numbers zones)
 

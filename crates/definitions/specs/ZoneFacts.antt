@@ -3,7 +3,7 @@ use Rattle.std.specs.Prelude.{ℕ, ◌-◌, ◌<◌, ◌≤◌, List, length, Al
 use Rattle.std.specs.List.{AllAdjacentBelow}
 use Rattle.definitions.specs.Zones.{zone_end, zone_at}
 
--- a zone has a page frame, and none with a number above 65535
+-- a zone has at least one page frame, and none with a number above 65535
 abbrev pub IsZone : ℕ × ℕ → Type 0
 IsZone zone = (0 < zone.1) × (zone_end zone ≤ 65536)
 
@@ -22,7 +22,7 @@ pub record AreZones (zones : List (ℕ × ℕ)) : Type 0 where
   pub each : All IsZone zones
   pub apart : AreApart zones
 
--- zone j has the number p
+-- p is a page frame number of zone j
 pub record InZone (zones : List (ℕ × ℕ)) (p j : ℕ) : Type 0 where
   pub within : j < length zones
   pub from : (zone_at zones j).0 ≤ p

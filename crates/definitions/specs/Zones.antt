@@ -8,7 +8,7 @@ abbrev pub numbers : List (ℕ × ℕ) → List ℕ
 numbers [] = []
 numbers (zone ∷ zones) = range_with_len zone.0 zone.1 ++ numbers zones
 
--- the least of an ascending list at or above p
+-- the least member of an ascending list that is at or above p
 abbrev pub first_from : List ℕ → ℕ → Option ℕ
 first_from members p = find (λ q. nat_le p q) members
 

@@ -7,7 +7,7 @@ use thiserror::Error;
 pub struct Ident {
     /// LINUX_VERSION_CODE.
     pub version_code: u32,
-    /// Each filled with zero bytes.
+    /// Six names, each padded with zero bytes.
     pub names: [[u8; 65]; 6],
 }
 
@@ -15,15 +15,15 @@ pub struct Ident {
 #[derive(Clone, Copy, Debug, PartialEq, Eq)]
 pub struct Info {
     pub ident: Ident,
-    /// How many page frames the machine has (`num_physpages`).
+    /// The number of page frames that the machine has (`num_physpages`).
     pub physpages: u64,
-    /// How many page frames were saved (`image_pages`).
+    /// The number of page frames that were saved (`image_pages`).
     pub image_pages: u64,
-    /// How many pages the stream has, this one among them (`pages`).
+    /// The number of pages in the stream, this one included (`pages`).
     pub pages: u64,
 }
 
-/// A field of the identity that an image and the machine are compared by.
+/// A field of the identity in which an image and the machine are compared.
 #[derive(Clone, Copy, Debug, PartialEq, Eq, Error)]
 pub enum Field {
     #[error("version code")]

@@ -1,5 +1,5 @@
-//! The definitions that the contracts of several crates cite, laws that show what they mean, and plain types that they
-//! speak of.
+//! Definitions that the contracts of several crates cite, the plain types that they use, and laws that show what they
+//! mean.
 #![tactic(auto)]
 
 mod info;

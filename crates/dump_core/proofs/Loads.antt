@@ -32,7 +32,7 @@ loads_more start runs i offset lt at =
     ap (loads_bytes start) (take_more runs i (0, 0) lt) ∙ loads_bytes-one start (take i runs) run
     ∙ ap (λ (k : ℕ). loads_bytes start (take i runs) ++ load_bytes k run.0 run.1) (sym at)
 
--- The headers so far are taken, and then the next one, or a front of it.
+-- The headers so far are taken, and then the next header, or a prefix of it.
 
 pub all_loads_more : (start : ℕ) (runs : List (ℕ × ℕ)) (i offset : ℕ) (old mid new : Option (List ℕ)) → i < length runs → offset ≡ start + 4096 * frames_in (take i runs) → TakesAll (loads_bytes start (take i runs)) old mid
     → TakesAll (load_bytes offset (get_or runs i (0, 0)).0 (get_or runs i (0, 0)).1) mid new → TakesAll (loads_bytes start (take (i + 1) runs)) old new

@@ -34,7 +34,7 @@ one_page_more m a i =
     ap (page_bytes m) (range-append a i 1) ∙ page_bytes-append m (range_with_len a i) ((a + i) ∷ [])
     ∙ ap (λ (bytes : List ℕ). page_bytes m (range_with_len a i) ++ bytes) (append-nil (frame m (a + i)))
 
--- One page more of a run, or a front of it.
+-- One page more of a run is taken, or a prefix of the page.
 
 pub all_pages_more : (m : Memory) (a i : ℕ) (page : List ℕ) (old mid new : Option (List ℕ)) → page ≡ frame m (a + i) → TakesAll (page_bytes m (range_with_len a i)) old mid → TakesAll page mid new → TakesAll (page_bytes m (range_with_len a (i + 1))) old new
 all_pages_more m a i page old mid new e so_far more =
@@ -54,7 +54,7 @@ front_of_pages m a i n page old mid new lt e so_far front =
     (TakesFront-second (page_bytes m (range_with_len a i)) (frame m (a + i)) old mid new so_far (subst (λ (text : List ℕ). TakesFront text mid new) e front)) in
     subst (λ (text : List ℕ). TakesFront text old new) all (TakesFront-first (page_bytes m (range_with_len a (i + 1))) rest old new first)
 
--- One run more, or a front of it.
+-- One run more is taken, or a prefix of the run.
 
 run_more : (m : Memory) (runs : List (ℕ × ℕ)) (j : ℕ) → j < length runs → page_bytes m (numbers (take (j + 1) runs)) ≡ page_bytes m (numbers (take j runs)) ++ page_bytes m (range_with_len (zone_at runs j).0 (zone_at runs j).1)
 run_more m runs j lt =

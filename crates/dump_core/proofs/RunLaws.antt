@@ -94,7 +94,7 @@ unfolding runs_of
 few_runs [] = omega arith
 few_runs (s ∷ numbers) = omega (arith, in_front_few s (runs_of numbers), few_runs numbers)
 
--- Where all numbers are below one, so the runs end there.
+-- If all numbers are below b, the runs end by b.
 
 abbrev EndBy : ℕ → List (ℕ × ℕ) → Type 0
 EndBy b runs = All (λ (run : ℕ × ℕ). zone_end run ≤ b) runs

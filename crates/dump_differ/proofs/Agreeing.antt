@@ -39,28 +39,28 @@ agree_outside a b p same out =
       page = λ in'. absurd (none_a in');
     }
 
--- they agree up to the next valid page frame
+-- two dumps agree up to the next valid page frame
 pub agree_to_next : (a b : Dump) (from p : ℕ) → b.hw ≡ a.hw → AgreeBelow a b from → IsNext (numbers a.hw.zones) from p → AgreeBelow a b p
 agree_to_next a b from p same below next q lt = elim (cases_lt q from) [
   | inl low ↦ below q low
   | inr ge ↦ agree_outside a b q same (λ in'. let least = next.least q in' ge in omega arith)
 ]
 
--- and where they agree at it, up to and with it
+-- if two dumps agree below and at a page frame, they agree up to and including that page frame
 pub agree_with : (a b : Dump) (p : ℕ) → AgreeBelow a b p → AgreeAt a b p → AgreeBelow a b (p + 1)
 agree_with a b p below here q lt = elim (cases_lt q p) [
   | inl low ↦ below q low
   | inr ge ↦ let same : p ≡ q = omega arith in subst (AgreeAt a b) same here
 ]
 
--- after the last one they agree
+-- past the last page frame two dumps agree
 pub agree_behind : (a b : Dump) (from : ℕ) → b.hw ≡ a.hw → AgreeBelow a b from → ((p : ℕ) → Contains (numbers a.hw.zones) p → p < from) → AgreeEverywhere a b
 agree_behind a b from same below last p = elim (cases_lt p from) [
   | inl low ↦ below p low
   | inr ge ↦ agree_outside a b p same (λ in'. let low = last p in' in omega arith)
 ]
 
--- what tells them apart at the first place is their first difference
+-- the difference at the first place where two dumps don't agree is their first difference
 pub first_at : (a b : Dump) (p : ℕ) (d : Difference) → b.hw ≡ a.hw → AgreeBelow a b p → IsDifferenceAt a b p d → IsFirst a b d
 first_at a b p difference.Hardware same below is = absurd is
 first_at a b p (difference.Saveable q) same below is =

@@ -1,4 +1,4 @@
--- What the tests of two machines' parts tell.
+-- What the tests of two machines' parts say.
 use Rattle.std.proofs.Common.{◌≡◌, ℕ, ◌&&◌, Bool, true, false, not, List, refl, sym, ap, ◌∙◌, eqb}
 use Rattle.std.proofs.lemmas.Bool.{false≢true}
 use Rattle.std.proofs.lemmas.Bool.Decides.{Decides-eqb, Decides-and, Decides-like}
@@ -30,7 +30,7 @@ triple_decides (a, b, c) (d, e, f) =
     ((ap (λ (x : ℕ × ℕ × ℕ). x.0) s, ap (λ (x : ℕ × ℕ × ℕ). x.1) s), ap (λ (x : ℕ × ℕ × ℕ). x.2) s))
     (Decides-and (eqb a d && eqb b e) (eqb c f) (Decides-and (eqb a d) (eqb b e) (Decides-eqb a d) (Decides-eqb b e)) (Decides-eqb c f))
 
--- where a test tells that two lists of these aren't the same
+-- a test of whether two of these lists differ decides whether they are the same
 
 not_decides : {P : Type 0} (t r : Bool) → Decides t P → r ≡ not t → (r ≡ false → P) × (r ≡ true → P → ⊥)
 not_decides true r d e = (λ _. d.0 refl, λ is _. false≢true (sym e ∙ is))

@@ -14,7 +14,7 @@ use Rattle.dump_facts.specs.Counts.{frames_of}
 use Rattle.dump_facts.specs.Facts.{facts_of_image, image_facts}
 use Rattle.dump_facts.specs.declared.counting.Kind.TheVariants.{Saveable, WithData}
 
--- the saveable page frames are those that are counted so
+-- the saveable page frames are those that are counted as saveable
 pub saveable_are : (h : Hardware) (m : Memory) → frames_of h m Saveable ≡ saveable h m
 unfolding saveable_frames
 saveable_are h m = refl

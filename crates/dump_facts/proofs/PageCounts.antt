@@ -1,4 +1,4 @@
--- What the crates below tell of page frames.
+-- What the crates below say of page frames.
 use Rattle.std.proofs.Common.{◌≡◌, ℕ, Bool, List, length, IsTrue, sym, ap, ap₂, ◌∙◌, subst, arith}
 use Rattle.std.proofs.lemmas.Bool.Decides.{same_from_decides}
 use Rattle.std.specs.List.{Contains}

@@ -23,7 +23,7 @@ seen_word h m s =
       | inr ne ↦ seen_other (entry_of_word word) (λ e. ne ((entry_of_word-is_image word).0 e)) ∙ ap entry_of_word (sym (cond-false (eqb word 65536) 0 word (ne_eqb word 65536 ne)))
     ]
 
--- a slot is seen to have an entry just where the word that is seen is the entry's
+-- a slot is seen to have an entry if and only if the word that is seen is the entry's
 pub seen_as : (h : Hardware) (m : Memory) (s : ℕ) (had other : SlotEntry) → had ≡ entry_of_word (raw_slot_entry h m s) → entry_of_word (word_of other) ≡ other → (seen had ≡ other) ↔ (slot_entry h m s ≡ word_of other)
 seen_as h m s had other is own =
     let told = entry_of_word-is (slot_entry h m s) other own in

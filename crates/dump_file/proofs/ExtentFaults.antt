@@ -71,7 +71,7 @@ fault_of_cover extents slots at some few le (inl h) = absurd (⊎_elim (λ none.
 fault_of_cover extents slots at some few le (inr (inl h)) = absurd (omega (arith, h.1, le))
 fault_of_cover extents slots at some few le (inr (inr h)) = h.3
 
--- extents that are each in order are a file map just where they cover the slots
+-- extents that are each in order are a file map if and only if they cover the slots
 pub covers_is : (extents : List (ℕ × ℕ × ℕ)) (slots : ℕ) (b : Bool) → 1 ≤ length extents → length extents ≤ 64 → ((j : ℕ) → j < length extents → is_extent extents j ≡ true) → (b ≡ true → IsFileMap extents slots) → (IsFileMap extents slots → b ≡ true) → b ≡ eqb (slots_of extents) slots
 covers_is extents slots true some few each sound whole = sym (eq-eqb (slots_of extents) slots ((sound refl).covers))
 covers_is extents slots false some few each sound whole =

@@ -1,4 +1,4 @@
--- The extents of a dump of version 2, of which the first n were read.
+-- The extents of a dump of version 2, when the first n have been read.
 use Rattle.std.proofs.Common.{◌≡◌, ℕ, ◌+◌, ◌-◌, ◌*◌, ◌<◌, ◌≤◌, zero, suc, Bool, true, false, eqb, ◌&&◌, List, [], ◌∷◌, cond, length, map, Some, None, refl, sym, ap, ap₂, ◌∙◌, subst, inl, inr, arith}
 use Rattle.std.proofs.lemmas.Bool.{cases_Bool, cases_lt}
 use Rattle.std.proofs.lemmas.List.FromFn.{get_or-map-range_with_len, length-map-range_with_len}
@@ -109,7 +109,7 @@ whole_list bytes first len n list h all is =
     ∙ ap (λ (k : ℕ). map (extent_at bytes (first_extent bytes)) (range_with_len 0 k)) (all ∙ h.len_is)
     ∙ sym (extents_are bytes h.second)
 
--- The file map, by what was read of it.
+-- The file map, by the extents that were read.
 
 pub map_extents : (bytes : List ℕ) (m s len : ℕ) → HasMap bytes m s → len ≡ number bytes (m + 4) → HasExtents bytes (m + 8) len
 map_extents bytes m s len h len_is = record {

@@ -1,4 +1,4 @@
--- The zones of a dump, of which the first n were read.
+-- The zones of a dump, when the first n have been read.
 use Rattle.std.proofs.Common.{◌≡◌, ℕ, ◌+◌, ◌-◌, ◌<◌, ◌≤◌, Bool, true, false, ltb, leb, List, [], length, map, Some, None, eqb, ◌&&◌, ◌||◌, sym, ap, ◌∙◌, subst, inl, inr, arith}
 use Rattle.std.proofs.lemmas.Bool.{and_from, cases_Bool, cases_lt, le-leb, lt-ltb}
 use Rattle.std.proofs.lemmas.List.FromFn.{get_or-map-range_with_len, length-map-range_with_len}
@@ -48,7 +48,7 @@ zone_short bytes pairs n f is less there are short =
     items_short bytes zone_byte (is_zone (zones bytes)) Zone (zone_count bytes) n f less
     (λ i lt. zone_right bytes pairs n i is (omega (arith, less)) there are lt) (ap (wanted bytes) place ∙ short)
 
--- these are zones, since each passes its test
+-- the zones that were read are zones of a machine, since each passes its test
 any_hardware : List (ℕ × ℕ) → Hardware
 any_hardware zs = record { zones = zs; slots = 0; frame_table = 0; slot_table = 0; regions = []; ident = record { version_code = 0; names = [] }; hw_sig = 0; extents = [] }
 

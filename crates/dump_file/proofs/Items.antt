@@ -1,4 +1,4 @@
--- Entries side by side, of which each is tested when it has been read: zones, and extents.
+-- Entries side by side, each tested once it has been read: zones, and extents.
 use Rattle.std.proofs.Common.{◌≡◌, ℕ, ◌+◌, ◌<◌, ◌≤◌, Bool, true, false, List, [], ◌∷◌, ◌++◌, length, map, take, Option, Some, None, sym, ap, ◌∙◌, arith}
 use Rattle.std.proofs.Math.ListN.{set}
 use Rattle.std.proofs.lemmas.List.{take_more_set}
@@ -19,13 +19,13 @@ item_right bytes place test kind j there right =
     or_else-none (wanted bytes (place (j + 1))) (unless (test j) kind (place j)) (wanted-there bytes (place (j + 1)) there)
     ∙ unless-true (test j) kind (place j) right
 
--- the first of them whose bytes are missing
+-- the first entry whose bytes are missing
 pub items_short : (bytes : List ℕ) (place : ℕ → ℕ) (test : ℕ → Bool) (kind : DumpKind) (n j : ℕ) (f : DumpFault) → j < n → ((i : ℕ) → i < j → item bytes place test kind i ≡ None) → wanted bytes (place (j + 1)) ≡ Some f → first_some (map (item bytes place test kind) (range_with_len 0 n)) ≡ Some f
 items_short bytes place test kind n j f lt right short =
     first-at (item bytes place test kind) 0 n j f (omega arith) (omega (arith, lt)) (λ i from i_lt. right i i_lt)
     (or_else-some (wanted bytes (place (j + 1))) (unless (test j) kind (place j)) f short)
 
--- the first of them that its test refuses
+-- the first entry that its test refuses
 pub items_wrong : (bytes : List ℕ) (place : ℕ → ℕ) (test : ℕ → Bool) (kind : DumpKind) (n j : ℕ) → j < n → ((i : ℕ) → i < j → item bytes place test kind i ≡ None) → place (j + 1) ≤ length bytes → test j ≡ false → first_some (map (item bytes place test kind) (range_with_len 0 n)) ≡ Some (record { kind = kind; at = place j })
 items_wrong bytes place test kind n j lt right there wrong =
     first-at (item bytes place test kind) 0 n j (record { kind = kind; at = place j }) (omega arith) (omega (arith, lt)) (λ i from i_lt. right i i_lt)

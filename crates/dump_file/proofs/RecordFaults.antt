@@ -12,7 +12,7 @@ use Rattle.dump_file.specs.declared.dump.DumpFault.{DumpFault}
 use Rattle.dump_file.specs.declared.dump.DumpKind.TheVariants.{Frame, Order}
 use Rattle.dump_file.proofs.Chains.{or_else-some, or_else-none, none-first, none-second, unless-true, unless-false, unless-none}
 
--- Whether a page frame is valid, as the zones tell it.
+-- Whether a page frame is valid, by the zones.
 
 pub valid-true : (zones : List (ℕ × ℕ)) (p : ℕ) (b : Bool) → (IsTrue b ↔ Contains (numbers zones) p) → b ≡ true → has (numbers zones) p ≡ true
 valid-true zones p b tells e = any_true (numbers zones) p (tells.0 e)

@@ -15,7 +15,7 @@ use Rattle.dump_file.proofs.Chains.{named, named_is, passed}
 pub at_begin : (bytes : List ℕ) (left : Option (List ℕ)) → left ≡ Some bytes → IsReadTo bytes 0 left
 at_begin bytes left is = record { within = omega arith; rest = is }
 
--- the same place, otherwise named
+-- the same place under another name
 pub at_place : (bytes : List ℕ) (k n : ℕ) (left : Option (List ℕ)) → k ≡ n → IsReadTo bytes k left → IsReadTo bytes n left
 at_place bytes k n left same h = subst (λ (i : ℕ). IsReadTo bytes i left) same h
 
@@ -57,7 +57,7 @@ not_told {A} bytes wrong end res r left is never = record {
 pub same_fault : {A : Type 0} {bytes : List ℕ} {a : Option DumpFault} {k : ℕ} {res : Result A DumpStop} {left : Option (List ℕ)} (b : Option DumpFault) → a ≡ b → IsRead bytes a k res left → IsRead bytes b k res left
 same_fault {A} {bytes} {a} {k} {res} {left} b is h = subst (λ (o : Option DumpFault). IsRead bytes o k res left) is h
 
--- How many bytes tell a fault.
+-- How many bytes show a fault.
 
 pub told_zone : (bytes : List ℕ) (k : ℕ) → 424 ≤ k → told_by bytes Zone k ≡ k + 8
 told_zone bytes k le = ap (λ (b : Bool). cond b 32 (k + 8)) (ne_eqb k 28 (λ e. absurd (omega (arith, e, le))))

@@ -1,4 +1,4 @@
--- What is written of a machine without regions is a dump of it.
+-- What is written for a machine without regions is a dump of that machine.
 use Rattle.std.proofs.Common.{◌≡◌, ℕ, ◌+◌, ◌*◌, ◌/◌, ◌<◌, ◌≤◌, Bool, true, false, cond, not, leb, ◌&&◌, ◌||◌, List, [], ◌++◌, length, None, refl, sym, ap, ap₂, ◌∙◌, subst, inl, inr, length-append, arith}
 use Rattle.std.specs.Prelude.{nat_lt}
 use Rattle.std.proofs.lemmas.Bool.{and_from, cases_Bool, eq-eqb, le-leb}

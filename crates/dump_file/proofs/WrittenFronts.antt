@@ -123,7 +123,7 @@ length-front h is =
     let last : List ℕ = 0 ∷ 0 ∷ [] in
     omega (arith, length-append p7 last, length-append p6 (concat h.ident.names), s6, length-names h.ident.names is.names is.each_name)
 
--- What it says.
+-- What the front says.
 
 pub says_first : (h : Hardware) (text : List ℕ) → HasFront h text → is_first text ≡ is_plain h
 says_first h text front =

@@ -56,7 +56,7 @@ length-record zones m j has lt =
 pub length-records : (zones : List (ℕ × ℕ)) (m : Memory) → HasPages zones m → length (records_bytes m (numbers zones)) ≡ 4100 * length (kept zones m)
 length-records zones m has = length-pieces (record_bytes m) 4100 (kept zones m) 0 (λ j lt. length-record zones m j has lt)
 
--- what the records say, the first of which begins at this byte
+-- what the records say, if the first one begins at byte `first`
 pub record HasRecords (zones : List (ℕ × ℕ)) (m : Memory) (text : List ℕ) (first : ℕ) : Type 0 where
   pub frames : (j : ℕ) → j < length (kept zones m) → record_frame text first j ≡ get_or (kept zones m) j 0
   pub pages : (j : ℕ) → j < length (kept zones m) → record_page text first j ≡ frame m (get_or (kept zones m) j 0)
@@ -80,7 +80,7 @@ records_stand zones m text first has all =
           (second_stands text (record_byte first j) (number_bytes p) (frame m p) 4 (length-number_bytes p) (here j lt));
     }
 
--- They have no fault.
+-- The records that were written have no fault.
 
 above : (zones : List (ℕ × ℕ)) (m : Memory) (text : List ℕ) (first j : ℕ) → HasPages zones m → HasRecords zones m text first → j < length (kept zones m) → is_above (frame_before text first j) (record_frame text first j) ≡ true
 above zones m text first zero has says lt = refl
@@ -105,7 +105,7 @@ no_record_fault zones m text first has says size =
     (above zones m text first j has says within)
     (wanted-there text (k + 4 + 4096) (omega (arith, size, within))))
 
--- What they leave in the page frames.
+-- What the records leave in the page frames.
 
 -- the first of a list that passes a test is of the list, and passes it
 found : (test : ℕ → Bool) (xs : List ℕ) (x : ℕ) → find test xs ≡ Some x → Contains xs x × (test x ≡ true)

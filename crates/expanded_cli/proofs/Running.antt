@@ -51,7 +51,7 @@ plainly Mid Runs Refuses Lacks content mid blocks size header before then now sa
     let one : Mid content size header then now = subst (λ (x : Option Content). Mid x size header then now) same runs in
     plain then le is (alike content blocks header then now (subst (λ (m : ℕ). Mid content m header then now) size_is one))
 
--- one that is
+-- an image that is compressed
 
 fails_later : (content : Option Content) (before then now faults : ℕ) → before ≤ then → FailsWith content then now faults → FailsWith content before now faults
 fails_later content before then now faults le fails some tells = later before then now le (fails some tells)

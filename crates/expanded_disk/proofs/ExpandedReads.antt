@@ -12,7 +12,7 @@ use Rattle.image_units.specs.declared.index.Index.{Index}
 use Rattle.expanded_disk.specs.Laid.{blocks_for, expanded, expanded_page, laid_block, laid_map, plain_block, plain_header, plain_image}
 use Rattle.expanded_disk.specs.LaidLaws.{block-image, IsPage-plain}
 
--- a page is block b, where it is so by each content
+-- a page is block b of the plain image, if the disk tells its content
 abbrev pub IsBlock : Option Content → (header b : ℕ) → List ℕ → Type 0
 IsBlock content header b page = IfSome content (λ held. page ≡ plain_block (as_it_reads held) header b)
 

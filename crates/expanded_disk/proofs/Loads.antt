@@ -33,7 +33,7 @@ for_some P None h = λ held is. absurd (none_some held is) where
   none_some held is = cc
 for_some P (Some x) h = λ held is. let e : x ≡ held = cc in subst P e h
 
--- a disk that tells its content holds it still
+-- a disk that doesn't tell its content may fail in any way
 pub fails_none : (content : Option Content) (before now : ℕ) → content ≡ None → FailsBelow content before now
 fails_none None before now is = λ tells. absurd (false≢true tells)
 fails_none (Some held) before now is = λ tells. absurd (not_none is) where
@@ -64,7 +64,7 @@ map_inside content blocks index at b indexed few is = for_some (λ held. b < blo
       let i = indexed held refl in
       subst (λ (n : ℕ). n < blocks) (sym (is ∙ i.maps.maps_are at few)) (i.maps.maps_inside at few)
 
--- the units begin one behind the other
+-- the units begin one after the other
 start_of-later : (chain : ℕ → List ℕ) (j d : ℕ) → start_of chain j ≤ start_of chain (j + d)
 start_of-later chain j zero = let e : j + zero ≡ j = omega arith in rw e (omega arith)
 start_of-later chain j (suc d) =
@@ -113,7 +113,7 @@ none_length (Some held) blocks index number start len page indexed few at first 
     let is_one : is_length len ≡ true = ap is_length (same_length chain number start len page (at held refl) (first held refl) is) ∙ ((indexed held refl).units number few).len in
     cc
 
--- the pages behind a unit's first one
+-- the pages after the first page of a unit
 pub rest_inside : (content : Option Content) (index : Index) (number start len count : ℕ) (page : List ℕ) → number < units_of index.pages → StartsAt content index number start → BeginsWith content index start page → len ≡ word page 0 → 0 < count → count ≡ pages_with len → ForSome content (λ held. start + 1 + (count - 1) ≤ start_of (chain_of (as_it_reads held) index.first) (units_of index.pages))
 rest_inside content index number start len count page few at first is some count_is = λ held tells.
     let chain = chain_of (as_it_reads held) index.first in
@@ -138,7 +138,7 @@ is_packed None index number start len count page old put packed at first is some
 is_packed (Some held) index number start len count page old put packed at first is some count_is added filled =
     unit_packed (chain_of (as_it_reads held) index.first) index.pages number start len count page old put packed (at held refl) (first held refl) is some count_is added filled
 
--- what it expands to
+-- what the whole unit expands to
 abbrev pub IsUnitOf : Option Content → (first pages number : ℕ) → List ℕ → Type 0
 IsUnitOf content first pages number bytes = IfSome content (λ held. take (size_of pages number) bytes ≡ bytes_of (chain_of (as_it_reads held) first) pages number)
 
@@ -175,7 +175,7 @@ unit_page (Some held) index k number bytes page some lt at is taken =
     ∙ page-of_unit chain index.pages k (size_of index.pages ((k - 1) / 32)) bytes some room
     (subst (λ (n : ℕ). take (size_of index.pages n) bytes ≡ bytes_of chain index.pages n) at is)
 
--- what an expansion answers
+-- what an expansion returns
 written_all : (w n : ℕ) (fault : Option LzoFault) → Ok w ≡ told n fault → n ≡ w
 written_all w n None is = cc
 written_all w n (Some why) is = cc

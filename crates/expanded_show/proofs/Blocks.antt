@@ -64,7 +64,7 @@ maps_none content index g h = record { blocks = []; gathered = h; are = are cont
   are None = tt
   are (Some held) = sym (chain_none (as_it_reads held) index.first (chain_length (as_it_reads held) index))
 
--- this many pages has the chain
+-- the chain has `count` pages
 abbrev pub HasPages : Option Content → Index → ℕ → Type 0
 HasPages content index count = ForSome content (λ held. count ≡ chain_length (as_it_reads held) index)
 
@@ -92,7 +92,7 @@ maps_more content index m count entries at page old new pages read few added g =
       (ap₂ (λ (a n : ℕ). named_by a page n) read.0 same ∙ ap (λ (p : List ℕ). named_by (map_block v first m) p (min 511 (all - 511 * m))) page_is)
       ∙ sym (chain_more v first all m)
 
--- what a disk that tells its content can't come to
+-- what can't happen over a disk that tells its content
 
 none_some : (held : Content) → Some held ≡ None → ⊥
 none_some held e = cc

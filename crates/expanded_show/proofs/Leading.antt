@@ -39,7 +39,7 @@ index_at content mid blocks size header index same size_is indexed =
     subst (λ (x : Option Content). HasIndex x size header index) (sym same)
     (subst (λ (n : ℕ). HasIndex content n header index) (sym size_is) found)
 
--- over the disk that expands it
+-- what is shown over the disk that expands the image
 
 pub shows_expanded : (Plain : Showing) (content c : Option Content) (blocks header n b f before now : ℕ) (index : Index) (area facts plain : List Fact) → c ≡ expanded header content → n ≡ blocks_for index.pages → b ≡ 0 → FailsWith content before now f →
     Plain c n 0 b f plain → facts ≡ flat_map (standing (header_facts blocks index.header) area) plain → ShowsExpanded Plain content blocks header index area before now facts

@@ -27,7 +27,7 @@ kept_over each style last [] = refl
 kept_over each style last (f ∷ fs) =
     kept_over each style (kept_after style last (each f)) fs ∙ sym (kept_both style last (each f) (flat_map each fs))
 
--- what stands for all of them is printed
+-- what stands for all of the facts is printed
 
 pub puts_all : (each : Fact → List Fact) (style : Style) (fs : List Fact) (old new : Written) → Puts (over_style each style) fs old new → Puts style (flat_map each fs) old new
 puts_all each style fs old new p = record {
@@ -38,7 +38,7 @@ puts_all each style fs old new p = record {
 pub puts_front : (each : Fact → List Fact) (style : Style) (fs : List Fact) (old new : Written) → PutsFront (over_style each style) fs old new → PutsFront style (flat_map each fs) old new
 puts_front each style fs old new p = subst (λ (text : List ℕ). TakesFront text old.taken new.taken) (pieces_over each style old.last fs) p
 
--- what stands for one
+-- what stands for one fact
 
 pub stands : (header blocks xs : List Fact) (f : Fact) (t : Topic) → topic_of f ≡ t → xs ≡ standing_by header blocks f t → xs ≡ standing header blocks f
 stands header blocks xs f t is all = all ∙ ap (standing_by header blocks f) (sym is)

@@ -87,7 +87,7 @@ module _ (places : List ℕ) (pages : List (List ℕ)) (capacity : ℕ) (kept : 
       let then_same = marks (set places p 2) in
       omega arith
 
-  -- so the place that it gets fits a number of the table
+  -- the place of a page frame that gets a page of its own fits a number of the table
   pub few_pages : (p : ℕ) → p < length places → get_or places p 0 < 2 → length pages < 2 ^ 32
   few_pages p lt at =
       let below = room_for_one p lt at in

@@ -105,7 +105,7 @@ counts_of h frames hib counts i origs none saved with_pages format from =
 pub counts_are : (machine : Machine) (frames : Memory) (hib : Hib) (counts : Counts) (i : Image) → IsCounted machine frames hib counts → i.format ≡ hib.snapshot.format → IsTakenFrom machine.hw frames i → IsCountOf hib counts i
 counts_are machine frames hib counts i counted format from = counts_of machine.hw frames hib counts i counted.origs counted.zeros counted.saved counted.with_pages format from
 
--- so that its first page says it
+-- the first page of the image says its counts
 pub info_is : (h : Hardware) (hib : Hib) (counts : Counts) (m : Memory) (slots : SlotPages) (f : Format) → IsCountOf hib counts (image_of_memory h m slots f) → info_of h counts ≡ info_of_image (image_of_memory h m slots f)
 info_is h hib counts m slots f is = ap₂ (λ (n p : ℕ). let info : Info = record { ident = h.ident; physpages = valid_count h; image_pages = n; pages = p } in info) is.saved is.pages
 

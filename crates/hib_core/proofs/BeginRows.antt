@@ -192,7 +192,7 @@ is_of machine frames frames' hib hib' counts last f a is format seen =
       numbers = subst (λ (s : Stage). IsStageOf s h frames' a i) (sym t.next) (numbers, writer);
     }
 
--- it is accepted, and leaves no image yet
+-- the hibernation is accepted, and leaves no image yet
 begun_step : (h : Hardware) (v : disk.DiskImage) (last : Ending) (f : Format) (a : Running) → refusal h (on a) (event.Hibernate f) ≡ None →
     Step h v (on a) (event_of (saving last f)) (reply.More 0 (hibernate_steps (image_of_memory h a.memory a.slots f))) (hibernating (suspends_at last) (image_of_memory h a.memory a.slots f) a 0)
 begun_step h v ending.SwitchesOff f a goes =

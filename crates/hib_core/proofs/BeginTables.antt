@@ -83,7 +83,7 @@ kept_free_slots h frames copied kept =
     let lt : s < h.slots = omega arith in
     ap (λ (e : ℕ). eqb e 0) (entry-same frames copied h.slot_table s (kept (h.slot_table + s / 1024) (of_slot_table h s lt))))
 
--- so that the free slots stay
+-- with the copies made, the free slots stay
 pub free_slots_stay : (machine : Machine) (frames copied : Memory) (hib : Hib) (counts : Counts) (n : ℕ) (copies : List ℕ) → IsCounted machine frames hib counts → copies ≡ take n (unused machine.hw frames) →
     ((p : ℕ) → (Contains copies p → ⊥) → frame copied p ≡ frame frames p) → free_in copied (slot_table_of machine.hw) ≡ free_in frames (slot_table_of machine.hw)
 free_slots_stay machine frames copied hib counts n copies counted are others =

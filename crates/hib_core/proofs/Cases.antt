@@ -6,7 +6,7 @@ use Rattle.plain_machine.specs.Shows.{Activity, rests, runs, boots, hibernates, 
 use Rattle.plain_machine.specs.declared.reply.UndoCall.{UndoCall}
 use Rattle.plain_machine.specs.declared.reply.UndoCall.TheVariants as undo
 
--- What tells activities apart.
+-- What distinguishes activities.
 abbrev rank : Activity → ℕ
 rank rests = 0
 rank runs = 1

@@ -28,7 +28,7 @@ pub row_of : (machine : Machine) (frames : Memory) (hib : Hib) (machine' : Machi
 row_of machine frames hib machine' frames' hib' end r told c c' same reply row =
     subst (λ (x : Hib). Simulates machine frames hib machine' frames' x (event.Step actor.Core) told c c') (sym same) (subst (λ (q : Reply). Simulates machine frames hib machine' frames' hib' (event.Step actor.Core) q c c') (sym reply) row)
 
--- and one where the machine changes too
+-- and a row where the machine changes too
 pub row_at : (machine : Machine) (frames : Memory) (hib : Hib) (machine' last : Machine) (frames' : Memory) (hib' end : Hib) (r told : Reply) (c c' : disk.Content) → last ≡ machine' → end ≡ hib' → told ≡ r →
     Simulates machine frames hib machine' frames' hib' (event.Step actor.Core) r c c' → Simulates machine frames hib last frames' end (event.Step actor.Core) told c c'
 row_at machine frames hib machine' last frames' hib' end r told c c' kept same reply row =

@@ -88,7 +88,7 @@ given_back h change old new is left e =
     let back : GivesBack h old new = subst (λ (x : Change). Leaves x h old new) e left in
     ap (seen_frames h) back.given ∙ seen_seen h back.before (after_takes h old back.before is back.takes) ∙ sym back.given
 
--- Where they stay all does.
+-- If the image's slots stay, all of memory does.
 pub stayed : (h : Hardware) (change : Change) (old new : Memory) → Leaves change h old new → change ≡ stays → new ≡ old
 stayed h change old new left e = subst (λ (x : Change). Leaves x h old new) e left
 

@@ -88,7 +88,7 @@ entries_left h stays old new hw same p in' = ap (λ (m : Memory). frame_entry h 
 entries_left h takes old new hw taken p in' = entries_taken h old new hw taken p in'
 entries_left h gives old new hw given p in' = entries_given h old new hw given p in'
 
--- nor with the copies, which lie in free page frames
+-- making the copies changes no entry either, since they lie in free page frames
 pub entries_copied : (h : Hardware) (old new : Memory) → IsHardware h → AreReserved h old → (begins : BeginsImage h old new) → SameEntries h old begins.copied
 entries_copied h old new hw reserved begins p in' =
     entry-same old begins.copied h.frame_table p

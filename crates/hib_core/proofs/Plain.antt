@@ -1,4 +1,4 @@
--- What the plain machine may answer in a hibernation and in a settling.
+-- What the plain machine may do and reply in a hibernation and in a settling.
 use Rattle.std.proofs.Common.{◌≡◌, ◌<◌, ℕ, ◌+◌, Bool, true, false, Option, Some, None, refl, sym, arith, subst}
 use Rattle.std.specs.List.{Contains}
 use Rattle.definitions.specs.Disk as disk

@@ -81,7 +81,7 @@ back_row machine frames runs hib c c' call header can header_page back_page at w
       },
     ))
 
--- the running state shown with another answer to what is held
+-- the running state shown with another flag for what is held
 with_flag : (h : Hardware) (machine machine' : Machine) (frames : Memory) (a : Running) (i : Image) → machine'.area ≡ machine.area → machine'.held ≡ Perhaps → machine'.flights ≡ machine.flights → RunsAs h machine.held (reason_of machine.area) (flights_in machine.flights) frames a → RunsAs h machine'.held (reason_of machine'.area) (flights_in machine'.flights) frames (with_held a (maybe (own i)))
 with_flag h machine machine' frames a i area held flights runs = record {
   held = subst (λ (f : HeldFlag). ShowsHeld f (maybe (own i))) (sym held) tt;

@@ -54,7 +54,7 @@ writer_of machine frames hib saving w i a at of =
     let numbers : IsSavingOf machine.hw a i saving × IsWriterOf machine.hw a i saving.done frames w = numbers_at machine.hw frames hib a i (stage.Write saving w) at of in
     numbers.1
 
--- what it writes is the write of the next step
+-- what the writer writes is the write of the next step
 wrote : (R : ℕ × List ℕ → disk.Content → disk.Content → Type 0) (machine : Machine) (frames frames' : Memory) (hib : Hib) (saving : Saving) (c c' : disk.Content) (i : Image) (a : Running) (w : Writing) → hib.stage ≡ stage.Write saving w → HasWritten R frames frames' hib.snapshot w c c' →
     HibernationStandsFor machine frames hib c (hibernating (suspends_at saving.ending) i a saving.done) → R (write_of_step machine.hw a i saving.done) c c'
 wrote R machine frames frames' hib saving c c' i a w at written s =

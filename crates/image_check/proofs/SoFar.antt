@@ -40,7 +40,7 @@ so_far_start first content before format start w p f knows = record {
   false_true : false ≡ true → ⊥
   false_true e = cc
 
--- a failure before stays one
+-- a failure before stays a failure
 stays : (before then now : ℕ) → before ≤ then → then ≤ now → HasRisen before then → HasRisen before now
 stays before then now le more (inl lt) = inl (omega arith)
 stays before then now le more (inr last) = elim (cases_lt then now) [ inl lt ↦ inl (omega arith) | inr ge ↦ inr (omega arith) ]

@@ -25,6 +25,6 @@ stop_counted content blocks header before now told then first last Memory untold
 pub risen_at_sink : (content : Option Content) (blocks header before now : ℕ) (told then : Told) (first last : ℕ) (why : Stop) → why ≡ Sink → IsStopped content blocks header before now told then first last why → HasRisen first last
 risen_at_sink content blocks header before now told then first last why e stopped = (subst (IsStopped content blocks header before now told then first last) e stopped).0
 
--- and telling so leaves it
+-- reporting the failure leaves the output's count of faults as it is
 pub sink_kept : (why : Stop) (status : Status) (out out' note note' : SinkView) → why ≡ Sink → TellsStop why status out out' note note' → out'.faults ≡ out.faults
 sink_kept why status out out' note note' e tells = ap (λ (view : SinkView). view.faults) (subst (λ w. TellsStop w status out out' note note') e tells).out_is

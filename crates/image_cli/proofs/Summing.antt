@@ -59,7 +59,7 @@ told_alone told status before mid old view new note note' same text faults text'
     let failed : old.faults ≡ view.faults = sym faults ∙ ap (λ (t : Told). t.faults) (sym same) ∙ faults' in
     told_after [] told status old view new note note' (subst (λ (x : Option (List ℕ)). TakesAll [] old.taken x) taken (TakesAll-none old.taken)) (omega (arith, failed)) h
 
--- what was found, by what a check answers
+-- what was found, by what a check returns
 pub none_found : (found : Option (List Finding)) (old new : Told) (outcome : Outcome) → outcome ≡ NoImage → TellsFound found old new outcome → (found ≡ None) × (new ≡ old)
 none_found None old new outcome e t = (refl, t.1)
 none_found (Some found) old new outcome e t = let g : NoImage ≡ Checked = sym e ∙ t.0 in cc

@@ -51,7 +51,7 @@ so_far_more a b x y c q d old mid now count s h f g taken =
       size = omega (arith, length-append s.told (d ∷ []));
     }
 
--- its line was printed in part
+-- the line of the difference that was found was printed in part
 pub front_taken : (told : List Difference) (d : Difference) (old mid now : Option (List ℕ)) → TakesAll (lines_of told) old mid → TakesFront (line_of d) mid now → TakesFront (lines_of (told ++ d ∷ [])) old now
 front_taken told d old mid now before rest =
     subst (λ (x : List ℕ). TakesFront x old now) (sym (lines_more told d)) (TakesFront-second (lines_of told) (line_of d) old mid now before rest)
@@ -98,7 +98,7 @@ told_lines ds text status old mid new note noted taken counted told =
     subst (λ (t : List ℕ). IsTold (record { status = Refused; out = t; note = text }) status old new note noted) (append-nil (lines_of ds))
     (told_after (lines_of ds) (refused_with text) status old mid new note noted taken counted told)
 
--- so over disks that read as before
+-- the end is the same over disks that read as before
 ends_since : (first_only : Bool) (a x a' b y b' : SideView) (ds : List Difference) (q : Comparison) (end : Ended) → OnlyReads a x → OnlyReads b y → x.told ≡ a.told → y.told ≡ b.told → EndsAfter first_only x a' y b' ds end → EndsAfter first_only a a' b b' ds end
 ends_since first_only a x a' b y b' ds q ended.Same f g e h (untold, none, all) =
     let says = says_since a x a' b y b' ds q next.End f g e h (untold, all) in

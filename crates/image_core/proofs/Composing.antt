@@ -105,7 +105,7 @@ pages_cut (Some held) header tally info old one two mid new t first whole loads 
     (TakesFront-second ((a ++ b) ++ z) (concat (pages_of (saved_frames format at))) old mid new
     (TakesAll-both (a ++ b) z old two mid (TakesAll-both a b old one two whole (loads_taken held header tally one two loads)) back) front)
 
--- The whole of it.
+-- The whole dump is taken.
 
 all_taken : (tally : Tally) (info numbers : List ℕ) (pages : List (List ℕ)) (old one two mid new : Option (List ℕ)) → length (runs_of numbers) ≡ tally.runs
     → TakesAll (front_bytes (machine_of info) tally.runs) old one → TakesAll (loads_over numbers) one two → TakesAll (back_bytes (identity_of info) tally.runs) two mid

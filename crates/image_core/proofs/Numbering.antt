@@ -27,13 +27,13 @@ count_in_chain : (held : Content) (blocks header : ℕ) (n : Numbers) (given : L
 count_in_chain held blocks header n given frames h will =
     ap (λ (page : List ℕ). (counts_in page).image_pages) (sym (info_in_chain (Some held) blocks header n.pages n.info h.listed h.stands)) ∙ will
 
--- so many numbers as the info page counts are all
+-- as many numbers as the info page counts are all numbers
 pub all_numbers : (content : Option Content) (blocks header : ℕ) (n : Numbers) (given : List ℕ) (frames : ℕ) → HasNumbered content blocks header n given → WillGive n frames → AreFirstNumbers content header given → length given ≡ frames → AreAllNumbers content header given
 all_numbers None blocks header n given frames h will first size = tt
 all_numbers (Some held) blocks header n given frames h will first size =
     first ∙ ap (first_numbers (chain_format (as_it_reads held) header) (chain_page (as_it_reads held) header)) (size ∙ sym (count_in_chain held blocks header n given frames h will))
 
--- fewer numbers than that are all only on a disk that doesn't tell what it holds
+-- fewer numbers than the info page counts are all numbers only on a disk that doesn't tell what it holds
 pub ends_early : (content : Option Content) (blocks header : ℕ) (n : Numbers) (given : List ℕ) (frames : ℕ) → HasNumbered content blocks header n given → WillGive n frames → AreAllNumbers content header given → length given < frames → content ≡ None
 ends_early None blocks header n given frames h will all lt = refl
 ends_early (Some held) blocks header n given frames h will all lt =
@@ -41,7 +41,7 @@ ends_early (Some held) blocks header n given frames h will all lt =
     let format = chain_format (as_it_reads held) header in
     absurd (omega (arith, ap length all, length-map-range_with_len (number_in format at) 0 (count_in at), count_in_chain held blocks header n given frames h will))
 
--- so many numbers were given, and their runs counted
+-- the first i numbers were given, and their runs counted
 pub record Counts (content : Option Content) (blocks header : ℕ) (n : Numbers) (runs : RunCounter) (i : ℕ) : Type 0 where
   pub given : List ℕ
   pub ended : List (ℕ × ℕ)

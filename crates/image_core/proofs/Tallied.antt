@@ -40,13 +40,13 @@ count_by_tally held header tally t =
 pub runs_of_chain : (held : Content) (header : ℕ) (tally : Tally) → HasTallied (Some held) header tally → tally.runs ≡ length (runs_of (saved_numbers (chain_format (as_it_reads held) header) (chain_page (as_it_reads held) header)))
 runs_of_chain held header tally t = t.counted.count ∙ ap (λ (xs : List ℕ). length (runs_of xs)) t.counted.all
 
--- so many numbers are all
+-- as many numbers as the tally has page frames are all numbers
 pub all_by_tally : (content : Option Content) (header : ℕ) (tally : Tally) (given : List ℕ) → HasTallied content header tally → AreFirstNumbers content header given → length given ≡ tally.frames → AreAllNumbers content header given
 all_by_tally None header tally given t first size = tt
 all_by_tally (Some held) header tally given t first size =
     first ∙ ap (first_numbers (chain_format (as_it_reads held) header) (chain_page (as_it_reads held) header)) (size ∙ sym (count_by_tally held header tally t))
 
--- they end earlier, or have other runs, only on a disk that doesn't tell what it holds
+-- the numbers end earlier, or have other runs, only on a disk that doesn't tell what it holds
 pub early_by_tally : (content : Option Content) (header : ℕ) (tally : Tally) (given : List ℕ) → HasTallied content header tally → AreAllNumbers content header given → length given < tally.frames → content ≡ None
 early_by_tally None header tally given t all lt = refl
 early_by_tally (Some held) header tally given t all lt =

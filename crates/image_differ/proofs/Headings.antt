@@ -18,7 +18,7 @@ pub heading_more : (a b : Heading) (n : ℕ) → heading_differences a b (n + 1)
 unfolding heading_differences
 heading_more a b n = flat_more (λ k. list_of (heading_difference k a b)) n
 
--- a comparison of which so many parts are compared
+-- a comparison with the given number of parts compared
 abbrev pub with_parts : Comparison → ℕ → Comparison
 with_parts c parts = record { one = c.one; two = c.two; parts = parts; first = c.first; second = c.second }
 

@@ -77,7 +77,7 @@ head_below given bound p page h =
     (All-weaker (λ (g : SavedFrame). g.number < bound) (λ (g : SavedFrame). g.number < p + 1) (λ g lt. omega (arith, lt)) h.before h.below)
     (let lt : p < p + 1 = omega arith in lt))
 
--- and what is above all of them is above it
+-- what is above all page frames is above a compared one
 pub head_least : (given : List SavedFrame) (bound p n : ℕ) (page : List ℕ) → IsHead given bound p page → AreBelow n given → p + 1 ≤ n
 head_least given bound p n page h below =
     let all = subst (λ (x : List SavedFrame). AreBelow n x) h.is below in
@@ -138,7 +138,7 @@ differences_gap a b bound p le f g =
     ap (frame_differences a b) (sym all)
     ∙ gap_by a b bound (p - bound) (λ k from lt. f k from (omega arith)) (λ k from lt. g k from (omega arith))
 
--- behind a gap comes a page frame
+-- after a gap comes a page frame
 pub differences_next : (a b : List SavedFrame) (bound p : ℕ) (x y : Option (List ℕ)) → bound ≤ p → IsGap a bound p → IsGap b bound p → page_of p a ≡ x → page_of p b ≡ y → frame_differences a b (p + 1) ≡ frame_differences a b bound ++ difference_at p x y
 differences_next a b bound p x y le f g e h =
     frames_more a b p

@@ -1,4 +1,4 @@
--- Two images of which nothing is compared yet.
+-- Two images with nothing compared yet.
 use Rattle.std.proofs.Common.{ℕ, List, [], ◌++◌, refl, sym, ap, ◌∙◌, arith}
 use Rattle.image_differ.specs.Compares.{HasCompared}
 use Rattle.image_differ.specs.Differences.{frame_differences}

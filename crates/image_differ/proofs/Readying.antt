@@ -67,7 +67,7 @@ never_unread format l first (x ∷ h) reading clean =
 not_both : (t : Bool) → t ≡ false → t ≡ true → ⊥
 not_both t e f = cc
 
--- so it doesn't matter which calls of the disk failed
+-- it doesn't matter which calls of the disk failed
 pub all_since : (v : SideView) (before now : ℕ) (info : List ℕ) (given : List SavedFrame) → AreAllGiven v.content v.blocks v.header before now info given → AreAll v info given
 all_since v before now info given a = λ earlier later.
     let e = a.ended in

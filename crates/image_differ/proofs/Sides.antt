@@ -110,7 +110,7 @@ wrong_since v w u r told (pages, refused) =
     subst (λ (n : ℕ). IsRefused v.content v.blocks n v.faults u.faults v.told u.told pages) r.header refused in
     (pages, refused_since v.content w.content v.blocks w.blocks w.header w.faults v.faults u.faults w.told v.told u.told pages r.content r.blocks told r.faults there)
 
--- an answer after steps that gave nothing
+-- what is returned after steps that gave nothing
 pub says_since : (a x a' b y b' : SideView) (told : List Difference) (q : Comparison) (n : Next) → OnlyReads a x → OnlyReads b y → x.told ≡ a.told → y.told ≡ b.told → Says x a' y b' told q n → Says a a' b b' told q n
 says_since a x a' b y b' told q (next.Difference d) f g e h (untold, s) =
     ((untold.0 ∙ e, untold.1 ∙ h), compared_before a x b y q (told ++ d ∷ []) f g s)

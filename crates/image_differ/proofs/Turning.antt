@@ -20,7 +20,7 @@ use Rattle.image_differ.specs.declared.reading.Reading.{Reading}
 use Rattle.image_differ.specs.declared.reading.Turn.TheVariants as turn
 use Rattle.image_differ.proofs.Listing.{IsGap, below_further, below_gap, differences_gap, differences_next, differences_still, head_below, head_further, head_gap, head_least, head_page}
 
--- the other image is behind a page frame
+-- the other image is past a page frame
 abbrev IsLater : ℕ → Place → Type 0
 IsLater p Unread = ⊥
 IsLater p (At q) = p < q
@@ -114,7 +114,7 @@ are_ready a b c told s p q parts f g = record {
       (sym (differences_still s.first_frames s.second_frames f.more g.more s.bound s.bound f.from g.from (omega arith)));
 }
 
--- a reading of which the newest page frame is compared
+-- a reading whose newest page frame is compared
 abbrev pub compared : Reading → Reading
 compared r = record { frames = r.frames; place = Unread; page = r.page }
 
@@ -231,7 +231,7 @@ step_both a b x one two p q told t r at other is =
           (ap (λ (u : Bool). cond u [] (difference.Page x ∷ [])) is ∙ page_differs x t)));
     }
 
--- so many parts are compared, which are all
+-- all ten parts are compared
 pub all_parts : (a b : SideView) (parts : ℕ) (one two : Heading) (p q : Reading) (told : List Difference) → parts ≡ 10 → HasCompared a b (at_frames one two p q) told → HasCompared a b (record { one = one; two = two; parts = parts; first = p; second = q }) told
 all_parts a b parts one two p q told e h =
     subst (λ (k : ℕ). HasCompared a b (record { one = one; two = two; parts = k; first = p; second = q }) told) (sym e) h

@@ -6,7 +6,7 @@ use Rattle.definitions.specs.SwapHeader.{IsMarked, taken_back}
 use Rattle.definitions.proofs.DiskLaws.{IsImage-as_it_reads, length-as_it_reads}
 use Rattle.image_discard.specs.Crashes.{IsCrash, IsLeft}
 
--- each candidate of each sector is left so
+-- each candidate of each sector is one that a crash may leave
 pub record Within (header : ℕ) (page : List ℕ) (old c : Content) : Type 0 where
   pub size : length c ≡ length old
   pub each : (s : ℕ) (x : List ℕ) → s < length c → Contains (sector c s).candidates x → IsLeft header page old s x
@@ -85,7 +85,7 @@ crash_of_mixture header old c d v w u mixed = record {
   ];
 }
 
--- where the disk tells what it holds
+-- if the disk tells what it holds
 
 abbrev pub AreWithin : ℕ → Option Content → Option Content → Type 0
 AreWithin header old c = IfSome old (λ held. IfSome c (λ now. Within header (block (as_it_reads held) header) held now))

@@ -14,7 +14,7 @@ use Rattle.image_machine.specs.declared.filled.FilledPlan.{FilledPlan}
 use Rattle.image_machine.proofs.Laying.{numbers-more}
 use Rattle.image_dump.specs.Lays.{pages_of}
 
--- the plan has just the page frames that were given
+-- the plan has exactly the page frames that were given
 pub record IsLaid (content : Option Content) (blocks header : ℕ) (filled : FilledPlan) (frames : Frames) : Type 0 where
   pub given : List SavedFrame
   pub stands : HasGiven content blocks header frames given

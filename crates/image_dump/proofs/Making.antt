@@ -91,7 +91,7 @@ machine_made area content header heading layout tables new dump e f headed saved
       (subst (λ (l : Layout). IsMachineFor new.plan.heading l tables (pages_of saved) dump.hw dump.frames) f machine);
 }
 
--- The same over a disk that reads as before, whichever limits and dumps are an image's.
+-- What was made is the same over a disk that reads as before, whichever limits and dumps are an image's.
 
 bad_before : (content : Option Content) (blocks header before then now : ℕ) (told end : Told) → before ≤ then → IsBad content blocks header then now told end → IsBad content blocks header before now told end
 bad_before content blocks header before then now told end le (inl bad) = inl (bad_earlier content blocks header before then now told end le bad)

@@ -1,4 +1,4 @@
--- What is told of a name, by the pages before it.
+-- What is known of a name, by the pages before it.
 use Rattle.std.proofs.Common.{◌≡◌, ℕ, ◌+◌, ◌-◌, ◌<◌, true, false, List, [], ◌∷◌, ◌++◌, length, Some, None, Ok, Err, refl, sym, ap, ◌∙◌, arith, length-append}
 use Rattle.std.proofs.lemmas.Bool.{lt-ltb, le-ltb}
 use Rattle.definitions.specs.Bytes.{number_at}
@@ -37,7 +37,7 @@ none_wanted (info ∷ rest) e =
     let left : 0 ≡ number_at 8 info 424 - (length rest + 1) = some_same e in
     le-ltb (length rest + 1) (number_at 8 info 424) (omega (arith, left))
 
--- between them
+-- between the info page and the last page
 pub one_wanted : (pages : List (List ℕ)) (w : ℕ) → 0 < w → Some w ≡ wanted_after pages → is_wanted pages ≡ true
 one_wanted [] w lt e = refl
 one_wanted (info ∷ rest) w lt e =

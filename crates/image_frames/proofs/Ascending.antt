@@ -129,7 +129,7 @@ page_ascends format n pages page previous s last fresh =
       ];
     }
 
--- nothing is wrong with a number page, of which the count is known
+-- nothing is wrong with a number page whose count is known
 number_page : (format : Format) (known : Option Counts) (c : Counts) (position b : ℕ) (previous : Option ℕ) (page : List ℕ) (head more : List Finding) → head ++ (read_findings format known position b previous (Ok page) ++ more) ≡ [] → known ≡ Some c → meta_of c.image_pages + 1 ≤ c.pages → 0 < position → position ≤ meta_of c.image_pages → number_findings format c.image_pages position previous page ≡ []
 number_page format known c position b previous page head more clean is room some le =
     let read : read_findings format (Some c) position b previous (Ok page) ≡ [] =

@@ -44,7 +44,7 @@ use Rattle.image_frames.proofs.Numbering.{info_numbered, numbered_format, word_i
 none_saved : (a b : List (List ℕ)) → a ≡ b → a ≡ b ++ []
 none_saved a b e = e ∙ sym (append-nil b)
 
--- an image of which the number pages were passed over
+-- an image whose number pages were passed over
 pub passed_over : (content : Option Content) (blocks header : ℕ) (n : Numbers) (q : Pages) (page : List ℕ) (count : ℕ) → HasNumbered content blocks header n [] → count ≡ meta_of n.count → HasRead content blocks header (n.info ∷ []) q page count → HasPassed content blocks header n q
 passed_over content blocks header n q page count h all r = record { numbered = h; passed = r.more; stands = r.stands; size = r.size ∙ all }
 

@@ -30,7 +30,7 @@ use Rattle.image_frames.specs.Turns.{IsAtNumber, IsNumberRead}
 use Rattle.image_frames.specs.declared.numbers.Numbers.{Numbers}
 use Rattle.image_frames.proofs.Ascending.{ascends_by, word_ascends, word_small}
 
--- an image of which the info page was read
+-- an image whose info page was read
 pub begun_numbered : (content : Option Content) (blocks header : ℕ) (p : Pages) (info newest : List ℕ) (counts : Counts) → HasInfo content blocks header p counts info → counts.image_pages ≤ last_count → HasNumbered content blocks header (record { info = info; count = counts.image_pages; given = 0; pages = p; listed = newest }) []
 begun_numbered content blocks header p info newest counts has fits =
     let said = has.said in

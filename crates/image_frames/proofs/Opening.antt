@@ -1,4 +1,4 @@
--- The pages after the info page, of which no number was given yet.
+-- The pages after the info page, before any number was given.
 use Rattle.std.proofs.Common.{◌≡◌, ℕ, ◌+◌, ◌≤◌, List, [], ◌∷◌, length, Option, refl, sym, subst, arith}
 use Rattle.definitions.specs.Disk.{Content}
 use Rattle.definitions.specs.NumberPages.{meta_of}
@@ -18,7 +18,7 @@ info_stands content blocks header n h =
     let none : n.given ≡ 0 = sym h.size in
     subst (λ (x : List (List ℕ)). Stands content blocks header n.pages (n.info ∷ x)) (no_list h.listed (omega (arith, h.listed_size, none))) h.stands
 
--- so of pages that stand where these do, over a disk that reads as before
+-- other pages stand ahead too, if they stand where these do, over a disk that reads as before
 pub ahead_stands : (c d : Option Content) (m k header : ℕ) (n : Numbers) (p : Pages) → d ≡ c → k ≡ m → HasNumbered c m header n [] → (Stands c m header n.pages (n.info ∷ []) → Stands c m header p (n.info ∷ [])) → Stands d k header p (n.info ∷ [])
 ahead_stands c d m k header n p e i h f =
     stands_since c d m k header p (n.info ∷ []) (sym e) (sym i) (f (info_stands c m header n h))

@@ -1,4 +1,4 @@
--- Number pages that are left, of which one is wrong.
+-- Number pages that are left, one of them wrong.
 use Rattle.std.proofs.Common.{◌≡◌, ℕ, ◌+◌, ◌<◌, ◌≤◌, List, ◌∷◌, ◌++◌, length, Option, sym, ap, subst, ◌∙◌, arith, length-append}
 use Rattle.page_core.specs.declared.format.Format.{Format}
 use Rattle.definitions.specs.Disk.{Content}
@@ -13,11 +13,11 @@ use Rattle.image_saved.proofs.Following.{data_follows}
 use Rattle.image_frames.specs.Numbered.{HasNumbered, HasTooMany}
 use Rattle.image_frames.specs.declared.numbers.Numbers.{Numbers}
 
--- the image has them
+-- the image has the number pages that are left
 pub enough_left : (content : Option Content) (blocks header : ℕ) (n : Numbers) (given : List ℕ) (h : HasNumbered content blocks header n given) (left : ℕ) → meta_of n.given + left ≡ meta_of n.count → length (n.info ∷ h.listed) + left ≤ (counts_in n.info).pages
 enough_left content blocks header n given h left rest = omega (arith, h.listed_size, h.room, rest)
 
--- they can't all be read
+-- the number pages that are left can't all be read
 pub not_all : (content : Option Content) (blocks header : ℕ) (n : Numbers) (given : List ℕ) (h : HasNumbered content blocks header n given) (q : Pages) (more : List (List ℕ)) (left : ℕ) → HasTooMany content blocks header n given h → meta_of n.given + left ≡ meta_of n.count → length more ≡ left → q.format ≡ n.pages.format → Stands content blocks header q (n.info ∷ (h.listed ++ more)) → ⊥
 not_all content blocks header n given h q more left too_many rest size same s =
     let count = h.count in

@@ -92,7 +92,7 @@ pub none_found : (found : Option (List Finding)) (old new : Told) (outcome : Out
 none_found None old new outcome e t = refl
 none_found (Some found) old new outcome e t = let g : NoImage ≡ Checked = sym e ∙ t.0 in cc
 
--- those that are kept have the object of those that were told
+-- the findings that are kept have the same object as those that were printed
 pub all_kept : (found kept : List Finding) (new : Told) → Tells found untold new → new.text ≡ Some (lines_of kept) → new.failed ≡ false
     → (check_line true kept ≡ check_line true found) × (is_whole true kept ≡ is_whole true found)
 all_kept found kept new t text sound =
@@ -106,7 +106,7 @@ pub some_told : (found : Option (List Finding)) (old new : Told) (outcome : Outc
 some_told None old new outcome e begun t = let g : Checked ≡ NoImage = sym e ∙ t.0 in cc
 some_told (Some found) old new outcome e begun t = (found, (refl, subst (λ (x : Told). Tells found x new) begun t.1))
 
--- what two facts of an answer give
+-- what two facts about a result give
 pub both_ok : {T E : Type 0} (r : Result T E) (P Q R : T → Type 0) → ((x : T) → P x → Q x → R x) → IfOk r P → IfOk r Q → IfOk r R
 both_ok (Ok x) P Q R f p q = f x p q
 both_ok (Err e) P Q R f p q = tt

@@ -1,4 +1,4 @@
--- A disk that holds an image decodes to it.
+-- A disk that holds an image decodes to that image.
 use Rattle.std.proofs.Common.{◌≡◌, ◌≢◌, ◌↔◌, ℕ, ◌+◌, ◌-◌, ◌/◌, ◌%◌, ◌^◌, ◌<◌, ◌≤◌, ◌||◌, zero, suc, Bool, true, false, not, cond, eqb, leb, List, [], ◌∷◌, ◌++◌, length, get_or, map, filter, Option, Some, None, Ok, All, Contains, refl, sym, ap, ap₂, ◌∙◌, inl, inr, subst, arith, bit_and, zero-add}
 use Rattle.std.specs.List.{range_with_len, list_any}
 use Rattle.std.specs.Cmp.Lexicographic.{same_text}

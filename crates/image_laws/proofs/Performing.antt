@@ -63,7 +63,7 @@ page-moved frames from to source target =
     let at : from + (to - to) ≡ from = omega arith in
     frame-moved frames from to 1 to source target (omega arith) (omega arith) ∙ ap (frame frames) at
 
--- every other one
+-- every other page frame
 page-not_moved : (frames : List (List ℕ)) (from to p : ℕ) → from + 1 ≤ length frames → to + 1 ≤ length frames → p ≢ to → frame (moved frames from to 1) p ≡ frame frames p
 page-not_moved frames from to p source target apart = frame-not_moved frames from to 1 p source target (beside p to apart)
 

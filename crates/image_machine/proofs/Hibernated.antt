@@ -87,7 +87,7 @@ module _ (heading : Heading) (layout : Layout) (saved : List (ℕ × List ℕ)) 
       let both = Contains-from_filter (λ q. is_saveable (page_flags (entry_at m h.frame_table q))) (numbers h.zones) p in' in
       used p both.0 (sym (ap (λ (v : ℕ). is_saveable (page_flags v)) (entry_is p both.0)) ∙ both.1)
 
-  -- just the saved page frames and those of the tables are saved
+  -- the saveable page frames are exactly the saved ones and those of the tables
   pub saves_saved_and_tables : (p : ℕ) → Contains (saveable h m) p ↔ (Contains (numbers_of saved) p ⊎ IsTableFrame h p)
   saves_saved_and_tables p = (
     saved_by p,
@@ -108,7 +108,7 @@ module _ (heading : Heading) (layout : Layout) (saved : List (ℕ × List ℕ)) 
       ∙ frame-laid (top h.zones) saved p (below_top h.zones p is.hardware.zones.apart (is.inside p there))
       ∙ ap (λ (o : Option (List ℕ)). page_or o zero_page) e
 
--- so has it with the tables of the image
+-- each saved page frame has its page with the tables of the image too
 pub saved_has_page-own : (heading : Heading) (layout : Layout) (tables : ℕ × ℕ) (saved : List (ℕ × List ℕ)) (h : Hardware) (m : Memory) →
     IsMachineFor heading layout (Some tables) saved h m → (p : ℕ) (page : List ℕ) → Contains (numbers_of saved) p → saved_page saved p ≡ Some page → frame m p ≡ page
 saved_has_page-own heading layout tables saved h m is p page there e =

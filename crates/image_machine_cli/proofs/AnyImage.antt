@@ -35,13 +35,13 @@ info_read : (content : Option Content) (blocks header : ℕ) (index : Index) →
 info_read None blocks header index indexed = tt
 info_read (Some held) blocks header index indexed = indexed.info_is
 
--- so the heading that they give is the area's
+-- the heading that the pages of an index give is the area's
 pub heads_area : (content : Option Content) (blocks header : ℕ) (index : Index) (headed found : Headed) → headed ≡ found → IfSome content (λ held. IsIndexed blocks (as_it_reads held) header index) →
     ((c : Option Content) (h : ℕ) → IsReadFrom c h (Ok index.header) → IsChainPage c h 0 index.info → Heads c h headed) → Heads content header found
 heads_area content blocks header index headed found is indexed heads =
     subst (Heads content header) is (heads content header (header_read content blocks header index indexed) (info_read content blocks header index indexed))
 
--- the same area and the same notes before
+-- what is given is the same for an equal area and equal notes before
 
 pub gives_since : (wanted : Wanted) (area mid : Option Content) (told then : Told) (layout : Layout) (status : Status) (out out' note' : SinkView) → mid ≡ area → then ≡ told →
     Alike (λ c n h b f. GivesFrom wanted mid c n h b f then layout status out out' note') (λ c n h b f. GivesFrom wanted area c n h b f told layout status out out' note')
@@ -61,7 +61,7 @@ no_image_any wanted content blocks before now old new layout status out out' not
     plain now le (inr (page, (read, subst IsNotCompressed (sym none) tt)))
     (made NoImage new note (no_image_wanted wanted content content blocks layout.offset now now old new layout (untold, inr (page, (read, none)))) noted told)
 
--- one that isn't that of a version 1 area
+-- a header block that isn't that of a version 1 area
 
 no_area_wanted : (wanted : Wanted) (area content : Option Content) (blocks header before now : ℕ) (old new : Told) (layout : Layout) → HasNoArea area layout.offset → new ≡ old → MakesWanted wanted area content blocks header before now old new layout NoArea
 no_area_wanted Loader area content blocks header before now old new layout none untold = (none, untold)

@@ -101,7 +101,7 @@ each_in_chain format l held first (page_at b (Ok page) ∷ h) reading read clean
           ∙ ap (λ (j : ℕ). block v (entry_block v first j)) (sym placed ∙ at)
     ]
 
--- so they are the first ones of the chain
+-- the pages that were read are the first ones of the chain
 pub all_in_chain : (format : Format) (l : Limits) (held : Content) (first : ℕ) (h : List Name) → IsReading l first h → AreReadFrom (Some held) h → history_findings format h ≡ [] → pages_in h ≡ map (λ k. block (as_it_reads held) (entry_block (as_it_reads held) first k)) (range_with_len 0 (length (pages_in h)))
 all_in_chain format l held first h reading read clean =
     fill_by_all (λ k. block (as_it_reads held) (entry_block (as_it_reads held) first k)) (pages_in h) (length (pages_in h)) [] refl (each_in_chain format l held first h reading read clean)

@@ -15,7 +15,7 @@ use Rattle.image_check.specs.declared.finding.Finding.TheVariants as finding
 use Rattle.image_pages.specs.Clean.{counts_by, page_in, pages_in}
 use Rattle.image_pages.proofs.Findings.{left_none, right_none, end_wanted, end_mapped, info_clean, entry_clean, info_counts, counts_some}
 
--- of so many entries the first, as many as the info page says, have a page
+-- of the first `position` entries, the first ones have a page, as many as the info page says
 pub record IsCounted (format : Format) (position : ℕ) (known : Option Counts) (pages : List (List ℕ)) : Type 0 where
   pub counts : Counts
   pub is_known : known ≡ Some counts

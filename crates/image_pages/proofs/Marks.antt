@@ -34,6 +34,6 @@ marked_first page mark is = go (same_bytes (sig_of page) image_signature) (same_
       (no_mark (version_of page == 1) (nat_lt 630 (bad_count_of page)) (last_page_of page == 0) (BadCount (bad_count_of page)) LastZero (Version (version_of page)) page (first_outside (last_page_of page) (bad_pages_of page (bad_count_of page)))) e)
   go false false false e = cc
 
--- it is what the disk holds
+-- the first map is the one that the disk's header block names
 pub start_first : (held : Content) (blocks header : ℕ) (start : Start) → IsStart (Some held) blocks header start → start.first ≡ image_of (block (as_it_reads held) header)
 start_first held blocks header start s = s.first ∙ marked_first s.page s.mark s.marked ∙ ap image_of s.read

@@ -1,4 +1,4 @@
--- An answer after steps that gave nothing.
+-- What is returned after steps that gave nothing.
 use Rattle.std.proofs.Common.{◌≡◌, ℕ, ◌≤◌, List, Option, subst, ◌∙◌, arith}
 use Rattle.definitions.specs.Disk.{Content}
 use Rattle.image_walk.specs.Walking.{names_left}

@@ -30,7 +30,7 @@ read_refused content blocks header before now old new given s = record {
   first = first_in_chain content blocks header s.start s.history given s.begins s.clean s.pages;
 }
 
--- page k of them is page k of the chain
+-- page k of the given pages is page k of the chain
 pub page_of_first : (held : Content) (header : ℕ) (given : List (List ℕ)) (k : ℕ) → AreFirst (Some held) header given → k < length given → get_or given k [] ≡ chain_page (as_it_reads held) header k
 page_of_first held header given k first lt =
     ap (λ (x : List (List ℕ)). get_or x k []) first

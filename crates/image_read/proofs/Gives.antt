@@ -1,4 +1,4 @@
--- What a reader gives over a disk is what a resume answers.
+-- What a reader gives over a disk is what a resume replies.
 use Rattle.std.proofs.Common.{◌≡◌, ℕ, ◌+◌, ◌-◌, ◌%◌, ◌<◌, ◌≤◌, suc, List, length, cond, ltb, slice_get, Option, Some, None, is_none, Result, Ok, Err, sym, ap, ◌∙◌, subst, inl, inr, arith}
 use Rattle.std.proofs.lemmas.Bool.{cases_eq, cond-false, le-ltb}
 use Rattle.definitions.specs.Disk as disk

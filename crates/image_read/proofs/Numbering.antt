@@ -31,7 +31,7 @@ pub record IsAt (h : Hardware) (v : disk.DiskImage) (q : ℕ) (u : Unpacked) (pa
   pub last : u.last ≡ last_number h v (512 * q)
   pub page_is : page ≡ stream_page h v (1 + q)
 
--- its word j, and the number of that
+-- word j of the number page, and the number in that word
 pub word_is : (h : Hardware) (v : disk.DiskImage) (q j : ℕ) → j < 512 → number_word h v (512 * q + j) ≡ word (stream_page h v (1 + q)) j
 word_is h v q j lt =
     let block : (512 * q + j) / 512 ≡ q = omega arith in

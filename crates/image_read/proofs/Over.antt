@@ -1,4 +1,4 @@
--- A reader over a disk: what it calls a fault is what a resume answers.
+-- A reader over a disk: what the reader calls a fault is what a resume replies.
 use Rattle.std.proofs.Common.{◌≡◌, ◌⊎◌, ℕ, List, Option, Some, None, Bool, true, false, cond, inl, inr, refl, ap, ap₂, ◌∙◌}
 use Rattle.definitions.specs.Disk as disk
 use Rattle.plain_machine.specs.Machine.{Hardware}

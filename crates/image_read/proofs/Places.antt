@@ -20,7 +20,7 @@ at_page t h =
 pub read_at_page : (t : ℕ) → (t % 512 ≡ 0 → ⊥) → pages_read (t + 1) ≡ pages_read t + 1
 read_at_page t h = omega arith
 
--- in which map it stands, and as which entry
+-- in which map a page stands, and as which entry
 pub map_of_page : (t : ℕ) → (t % 512 ≡ 0 → ⊥) → pages_read t / 511 ≡ t / 512
 map_of_page t h = omega arith
 

@@ -41,7 +41,7 @@ same_test : (f : Format) (valid n pages : ℕ) → are_bad_counts f valid n page
 same_test Plain valid n pages = refl
 same_test SkipZeros valid n pages = refl
 
--- what is wrong with it is what a resume answers
+-- what is wrong with the info page is what a resume replies
 pub info_fault_is : (h : Hardware) (v : disk.DiskImage) (check : IdentCheck) (own : Option Ident) (valid : ℕ) (format : Format) (info : Info) → Compares h check own → valid ≡ valid_count h → format ≡ format_in h v → info ≡ info_in h v → as_reply (info_fault own valid format info) ≡ info_cause h v check
 unfolding info_fault
 info_fault_is h v check own valid format info compares valid_is format_is info_is =

@@ -71,7 +71,7 @@ at_numbers h v check r t page origs zeros reading apart some none page_is =
       marks = reading.marks ∙ ap (marked_in h v) read_is;
     }
 
--- what is wrong with a number page is what a resume answers
+-- what is wrong with a number page is what a resume replies
 
 lift_pack : (a b : Option PfnFault) → as_reply (pfn_cause (pack.or_else a b)) ≡ or_else (as_reply (pfn_cause a)) (as_reply (pfn_cause b))
 lift_pack None b = refl
@@ -147,7 +147,7 @@ numbers_fault_is h v zones r t q page zeros here zones_is =
           ∙ sym (cond-true (eqb (q + 1) (meta_of n)) (or_else (own h v q) (or_else (end_cause h v n) (listed_cause h v))) (own h v q) (eq-eqb (q + 1) (meta_of n) last))
     ]
 
--- and so of its place
+-- the same for what is wrong at the place of the number page
 pub cause_of_place : (h : Hardware) (v : disk.DiskImage) (check : IdentCheck) (zones : List (ℕ × ℕ)) (r : Reading) (t q : ℕ) (page zeros : List ℕ) → IsAtNumbers h v r t q page zeros → zones ≡ h.zones → read_cause h v check (place t) ≡ as_reply (numbers_fault zones r zeros page)
 cause_of_place h v check zones r t q page zeros here zones_is =
     let more = here.more in

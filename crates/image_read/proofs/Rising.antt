@@ -116,7 +116,7 @@ data_kept f marked n up =
       ]
     ]))
 
--- how many they are
+-- how many page frames there are with and without data pages
 count_apart : (test : ℕ → Bool) (xs : List ℕ) → length (filter test xs) + length (filter (λ x. not (test x)) xs) ≡ length xs
 count_apart test [] = refl
 count_apart test (x ∷ xs) =
@@ -140,7 +140,7 @@ data_count f marked n =
     let d = length-range_with_len 0 n in
     omega arith
 
--- The same of an image.
+-- The same for the page frames of an image.
 
 pub data_frames_are : (h : Hardware) (v : disk.DiskImage) → IsStrictlyIncreasing (frames_in h v (trace.info_in h v).image_pages) → with_data (frames_in h v (trace.info_in h v).image_pages) (marked_in h v (trace.info_in h v).image_pages) ≡ data_frames h v
 unfolding frames_in marked_in data_frames with_data

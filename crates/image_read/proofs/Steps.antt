@@ -1,4 +1,4 @@
--- The block that a step reads, and what it answers.
+-- The block that a step reads, and what the step returns.
 use Rattle.std.proofs.Common.{◌≡◌, ◌≢◌, ℕ, ◌<◌, ◌+◌, List, Option, Some, None, Result, Ok, Err, IfSome, OnOk, Bool, true, false, inl, inr, sym, ap, ◌∙◌, subst, arith}
 use Rattle.definitions.specs.Disk as disk
 use Rattle.plain_machine.specs.Machine.{Hardware, block_of_slot}

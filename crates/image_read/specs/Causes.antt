@@ -1,4 +1,4 @@
--- Why an image can't be read, as the reply of a resume, and what the parts of an image call it.
+-- Causes as replies of a resume, and faults of the parts of an image as causes.
 use Rattle.image_header.specs.declared.BadCounts.{BadCounts}
 use Rattle.pfn_pack.specs.declared.unpack.PfnFault.{PfnFault}
 use Rattle.pfn_pack.specs.declared.unpack.PfnFault.TheVariants as numbers

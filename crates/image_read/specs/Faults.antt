@@ -16,11 +16,11 @@ use Rattle.image_read.specs.declared.cause.Cause.{Cause}
 use Rattle.image_read.specs.declared.cause.Cause.TheVariants.{NoChain, BadBlock, ChainEnds, Mismatch, MemorySize}
 use Rattle.image_read.specs.declared.cause.Cause.TheVariants.{BadCounts}
 
--- a block of a chain
+-- what is wrong with a block of a chain
 abbrev pub block_fault : Reading → ℕ → Option Cause
 block_fault r x = if is_fault_of r.extents r.blocks r.last x then Some (BadBlock x) else None
 
--- the block of the first map
+-- what is wrong with the block of the first map
 abbrev pub first_fault : List (ℕ × ℕ × ℕ) → ℕ → ℕ → ℕ → Option Cause
 first_fault extents blocks last first =
     if first == 0 then Some NoChain else (if is_fault_of extents blocks last first then Some (BadBlock first) else None)
@@ -35,7 +35,7 @@ named_fault r t =
     then (if map_link r.map.page == 0 then Some (ChainEnds r.map.map) else block_fault r (map_link r.map.page))
     else block_fault r (map_entry r.map.page (t % 512 - 1))
 
--- what a map page says: a block, or that there is none
+-- what is wrong with what a map page says: a block, or that there is none
 abbrev pub chain_fault : Reading → Result ℕ ChainFault → Option Cause
 chain_fault r (Ok block) = block_fault r block
 chain_fault r (Err (chain.BadBlock block)) = block_fault r block
@@ -46,7 +46,7 @@ block_named (Ok block) = block
 block_named (Err (chain.BadBlock block)) = block
 block_named (Err (chain.ChainEnds map)) = 0
 
--- an info page, by the machine's identity, where it counts, and the number of its page frames
+-- what is wrong with an info page, given the machine's identity, if it is compared, and its number of page frames
 abbrev pub field_fault : Option Field → Option Cause
 field_fault None = None
 field_fault (Some field) = Some (Mismatch field)
@@ -67,7 +67,7 @@ unfoldable pub info_fault : Option Ident → ℕ → Format → Info → Option 
 info_fault own valid format info =
     or_else (identity_fault own info) (or_else (size_fault valid info) (counts_fault valid format info))
 
--- after the last number, given how many of them have no data page
+-- what is wrong with the count of pages after the last number, given how many numbers have no data page
 abbrev pub pages_fault : ℕ → ℕ → ℕ → Option Cause
 pages_fault saved pages zeros =
     if pages == saved - zeros + meta_of saved + 1 then None else Some (BadCounts saved pages)

@@ -28,7 +28,7 @@ pub record Reading : Type 0 where
 abbrev pub HasReadAll : Reading → Type 0
 HasReadAll r = r.steps ≡ place_count r.pages
 
--- how many blocks are still to be read at most: the longest chain, of 65,536 saved pages, has 65,794
+-- how many more blocks may be read at most: the longest chain, of 65,536 saved pages, has 65,794
 abbrev pub places_left : Reading → ℕ
 places_left r = 65794 - r.steps
 
@@ -45,7 +45,7 @@ pub record IsReady (r : Reading) (origs zeros : List ℕ) : Type 0 where
   pub listed_up : IsUpTo r.numbers.last origs
   pub marked_up : IsUpTo r.numbers.last zeros
 
--- the most pages that a stream has: 65536 saved ones, their number pages and the info page
+-- a stream has 1 page at least, and at most 65536 saved ones, their number pages and the info page
 pub record IsShort (pages : ℕ) : Type 0 where
   pub some : 1 ≤ pages
   pub few : pages ≤ 65665

@@ -3,7 +3,7 @@ use Rattle.std.specs.Prelude.{◌≡◌, ℕ, List}
 use Rattle.memory_bitmap.specs.FrameSet.{FrameSet}
 use Rattle.image_read.specs.Reading.{Reading}
 
--- The reader stays over a disk of as many blocks, and the sets stay over their zones.
+-- The reader stays over a disk with the same number of blocks, and the sets stay over their zones.
 pub record StaysOver (r r' : Reading) (origs origs' zeros zeros' : FrameSet) : Type 0 where
   pub same_blocks : r'.blocks ≡ r.blocks
   pub same_zones : origs'.zones ≡ origs.zones

@@ -57,7 +57,7 @@ unpacked_at h v k = record {
   last = last_number h v (numbers_read h v k);
 }
 
--- n once the last number page is read
+-- the number of saved page frames, once the last number page is read
 abbrev pub told : Hardware → disk.DiskImage → ℕ → Option ℕ
 told h v zero = None
 told h v (suc k) =
@@ -68,7 +68,7 @@ abbrev pub frame_after : List ℕ → ℕ → ℕ
 frame_after frames zero = 0
 frame_after frames (suc i) = slice_index frames i + 1
 
--- whose page the stream has at a place, if it is a data page
+-- the page frame whose page the stream has at a place, if that is a data page
 abbrev pub frame_at : Hardware → disk.DiskImage → Place → Option ℕ
 frame_at h v (map_at j) = None
 frame_at h v (page_at k) = if nat_lt (meta_in h v) k then slice_get (data_frames h v) (k - 1 - meta_in h v) else None
@@ -78,7 +78,7 @@ pub record HasCounts (n pages : ℕ) : Type 0 where
   pub some : 0 < n
   pub least : meta_of n + 1 ≤ pages
 
--- the slots on the blocks of this disk, by its header
+-- these extents, last slot, number of blocks and format are the disk's, by its header
 pub record IsAreaOf (h : Hardware) (v : disk.DiskImage) (extents : List (ℕ × ℕ
     × ℕ)) (last blocks : ℕ) (format : Format) : Type 0 where
   pub same_extents : extents ≡ h.extents

@@ -12,14 +12,14 @@ pub struct Area {
     pub map: FileMap,
     /// The last slot, by the header.
     pub last: u32,
-    /// How many blocks the disk has.
+    /// The number of blocks of the disk.
     pub blocks: u32,
 }
 
 impl Area {
     ghost use Rattle.image_read.specs.Slots.{HasSlotOn};
 
-    /// A block of the chain, where it isn't at fault.
+    /// Returns a block of the chain, unless it is at fault.
     pub fn checked(&self, block: u64) -> Result<u32, Cause>
         ensures ok { IsOk result ↔ (is_fault_of self.now.map self.now.blocks self.now.last block ≡ false) }
         ensures same { IfOk result (λ b. b ≡ block) }
@@ -35,7 +35,7 @@ impl Area {
         Ok(block as u32)
     }
 
-    /// Whether a slot from 1 to the last lies on this block, which isn't the header's.
+    /// Returns whether a slot from 1 to the last lies on this block, which isn't the header's.
     fn has_slot_on(&self, block: u64) -> bool
         requires { block ≢ block_of self.now.map 0 }
         ensures { IsTrue result ↔ HasSlotOn self.now.map self.now.last block }
@@ -43,7 +43,7 @@ impl Area {
         self.is_below_end(block) || self.is_past_end(block)
     }
 
-    /// Whether a slot that the extents cover, up to the last, lies on this block.
+    /// Returns whether a slot that the extents cover, up to the last, lies on this block.
     fn is_below_end(&self, block: u64) -> bool
         ensures below { IsTrue result ↔ ((s : ℕ) × (s < slots_of self.now.map) × (s ≤ self.now.last)
             × (block_of self.now.map s ≡ block)) }
@@ -55,8 +55,8 @@ impl Area {
         }
     }
 
-    /// Whether the last slot's way back to this block leads to a slot that lies on it: so it is where the last extent
-    /// goes on.
+    /// Returns whether this block is as far below the last slot's block as some slot that lies on it is below the last
+    /// slot. This finds the slots past the extents, which continue the last extent.
     fn is_past_end(&self, block: u64) -> bool
         ensures sound { IsTrue result → HasSlotOn self.now.map self.now.last block }
         ensures past { (s : ℕ) → slots_of self.now.map ≤ s → 1 ≤ s → s ≤ self.now.last →

@@ -9,10 +9,10 @@ pub enum Cause {
     /// The header names no first map.
     #[error("no chain")]
     NoChain,
-    /// A block of the chain is that of the header, or that of no slot.
+    /// A block of the chain is the header's, or no slot lies on it.
     #[error("bad block {block}")]
     BadBlock { block: u64 },
-    /// A map has no next one, though entries are wanted. Maps count from 1.
+    /// A map has no next map, but more entries are needed. Maps are counted from 1.
     #[error("chain ends {map}")]
     ChainEnds { map: u32 },
     /// The first field in which the image's identity isn't the machine's.
@@ -21,10 +21,10 @@ pub enum Cause {
     /// The image's number of page frames isn't the machine's.
     #[error("memory size {image} own {own}")]
     MemorySize { image: u64, own: u64 },
-    /// Numbers of pages that don't fit the machine, one another, or the frame numbers.
+    /// Numbers of pages that don't fit the machine, each other, or the frame numbers.
     #[error("bad counts {image_pages} {pages}")]
     BadCounts { image_pages: u64, pages: u64 },
-    /// Not a valid page frame number.
+    /// The number isn't a valid page frame number.
     #[error("bad pfn {pfn}")]
     BadPfn { pfn: u64 },
     /// Number b isn't above a, the one before.

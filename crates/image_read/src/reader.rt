@@ -22,16 +22,16 @@ use swap_map::{ChainFault, MapReader};
 use swap_slots::FileMap;
 use zones::Zones;
 
-/// How many blocks of the chain are a map and the pages that its entries name.
+/// Blocks per map: the map page and its 511 pages.
 const MAP_PLACES: u32 = 512;
 
-/// How many entries a map has.
+/// Entries per map.
 const MAP_ENTRIES: u32 = 511;
 
-/// How many numbers fill a number page.
+/// Numbers per number page.
 const PAGE_NUMBERS: u32 = 512;
 
-/// What an image must be of: this machine, by its zones, and by its identity where that is compared.
+/// The machine that an image must be of, by its zones and, if that is compared, by its identity.
 #[derive(Clone, Copy)]
 pub struct Expected<'a> {
     pub zones: &'a Zones,
@@ -41,11 +41,11 @@ pub struct Expected<'a> {
 /// What a step of a reader returns.
 #[derive(Clone, Copy)]
 pub enum ReadStep {
-    /// A map, the info page or a number page was read. `k` steps were made.
+    /// A map, the info page or a number page was read. `k` steps have been made.
     More { k: u32 },
     /// The saved page of this page frame was read.
     Page { pfn: u32 },
-    /// Every page of the stream was read before.
+    /// Every page of the stream had been read before.
     Done,
     /// The disk failed.
     Fault,
@@ -53,14 +53,14 @@ pub enum ReadStep {
     Refused(Cause),
 }
 
-/// An image that is read, one block a step.
+/// A reader of an image, which reads one block a step.
 #[derive(Drop)]
 pub struct Reader {
     area: Area,
     format: Format,
-    /// How many blocks were read.
+    /// The number of blocks read.
     steps: u32,
-    /// The block that is read next.
+    /// The block to read next.
     block: u32,
     /// The map that the entries are taken from.
     map: MapReader,
@@ -70,7 +70,7 @@ pub struct Reader {
     saved: u32,
     numbers: Unpack,
     listed: Option<u32>,
-    /// The page frames whose pages are still to be read are not below this one.
+    /// No page frame whose page is still to be read is below this one.
     frame: u32,
 }
 
@@ -143,14 +143,14 @@ impl Reader {
         })
     }
 
-    /// How many page frames the image saves, once its last number page was accepted.
+    /// Returns how many page frames the image saves, once its last number page was accepted.
     pub fn listed(&self) -> Option<u32>
         ensures { result ≡ self.now.listed }
     {
         self.listed
     }
 
-    /// Whether every page of the stream was read.
+    /// Returns whether every page of the stream was read.
     pub fn over(&self) -> bool
         ensures over { IsTrue result ↔ HasReadAll self.now }
         ensures whole { (h : Hardware) (v : DiskImage) (check : IdentCheck) (t : ℕ) (origs zeros : List ℕ) →
@@ -176,7 +176,7 @@ impl Reader {
         requires zones { origs.old.zones ≡ expected.now.zones.now }
         requires same_zones { zeros.old.zones ≡ expected.now.zones.now }
 
-        // The answer, over a disk that tells its content.
+        // What the step returns, over a disk that tells its content.
         ensures answers { (h : Hardware) (v : DiskImage) (check : IdentCheck) (t : ℕ) →
             HasReadPlaces h v check self.old t origs.old.members zeros.old.members → Reads h v (D.content disk.old) →
             expected.now.zones.now ≡ h.zones → Compares h check (option_copied expected.now.ident) →
@@ -205,7 +205,7 @@ impl Reader {
         }
     }
 
-    /// How many blocks there are to read: the pages, and a map before each 511 of them.
+    /// Returns how many blocks there are to read: the pages, and a map before every 511 of them.
     fn places(&self) -> u32
         ensures { result ≡ place_count self.now.pages }
     {
@@ -238,7 +238,7 @@ impl Reader {
         Ok(pfn)
     }
 
-    /// Takes the block that was read, by its place.
+    /// Accepts the block just read, by its place.
     fn accept(
         &mut self,
         page: &Page,
@@ -270,7 +270,7 @@ impl Reader {
         Ok(self.next_frame(origs, zeros))
     }
 
-    /// Takes the info page.
+    /// Accepts the info page.
     fn accept_info(&mut self, page: &Page, expected: &Expected) -> Result<(), Cause>
         ensures ok { IsOk result ↔ (info_fault (option_copied expected.now.ident)
             (length (numbers expected.now.zones.now)) self.old.format (info_of page.now) ≡ None) }
@@ -288,7 +288,7 @@ impl Reader {
         Ok(())
     }
 
-    /// Takes the next number page.
+    /// Accepts the next number page.
     fn accept_numbers(
         &mut self,
         page: &Page,
@@ -319,7 +319,7 @@ impl Reader {
         Ok(())
     }
 
-    /// Tests whether there are as many pages as the numbers say, given how many of them have no data page.
+    /// Checks that the stream has as many pages as the frame numbers call for, if `zeros` of them have no data page.
     fn test_listed(&self, zeros: u32) -> Result<(), Cause>
         requires { self.now.saved ≤ 65536 }
         ensures ok { IsOk result ↔ (pages_fault self.now.saved self.now.pages zeros ≡ None) }
@@ -335,7 +335,7 @@ impl Reader {
         Ok(())
     }
 
-    /// The next page frame whose page is in the stream.
+    /// Returns the next page frame whose page is in the stream.
     fn next_frame(&mut self, origs: &Bitmap, zeros: &Bitmap) -> Option<u32>
         ensures frame { result ≡ first_from (with_data origs.now.members zeros.now.members) self.old.frame }
         ensures after { self.new ≡ record self.old { frame = after_frame self.old.frame result } }
@@ -361,7 +361,7 @@ impl Reader {
         Ok(())
     }
 
-    /// The block of the next place, which the map names.
+    /// Returns the block of the next place, which the map names.
     fn next_block(&self) -> Result<u32, Cause>
         ensures ok { IsOk result ↔ (named_fault self.now self.now.steps ≡ None) }
         ensures fault { IfErr result (λ cause. named_fault self.now self.now.steps ≡ Some cause) }
@@ -375,7 +375,7 @@ impl Reader {
         self.test(self.map.entry(place - 1, u32::MAX))
     }
 
-    /// The block that a map names, where it isn't at fault.
+    /// Returns the block that a map names, unless it is at fault.
     fn test(&self, named: Result<u32, ChainFault>) -> Result<u32, Cause>
         ensures ok { IsOk result ↔ (chain_fault self.now named ≡ None) }
         ensures fault { IfErr result (λ cause. chain_fault self.now named ≡ Some cause) }
@@ -394,7 +394,7 @@ ghost use Rattle.image_read.specs.Faults.{info_fault, identity_fault};
 ghost use Rattle.image_read.specs.Reading.{FitsIn};
 ghost use Rattle.image_read.specs.Taking.{with_data};
 
-/// The least page frame from `from` on that is in `origs` and not in `zeros`.
+/// Returns the least page frame from `from` on that is in `origs` and not in `zeros`.
 fn next_with_data(origs: &Bitmap, zeros: &Bitmap, from: u32) -> Option<u32>
     ensures frame { result ≡ first_from (with_data origs.now.members zeros.now.members) from }
     ensures few { IfSome result (λ p. p < 65536) }
@@ -407,7 +407,7 @@ fn next_with_data(origs: &Bitmap, zeros: &Bitmap, from: u32) -> Option<u32>
     None
 }
 
-/// Whether an image is of the machine that is expected, and its counts fit.
+/// Checks that an image is of the expected machine, and that its counts fit.
 #[tactic(auto, unfolding(crate::specs::Faults::info_fault))]
 fn test_info(info: &Info, expected: &Expected, format: Format) -> Result<(), Cause>
     ensures ok { IsOk result ↔ (info_fault (option_copied expected.now.ident) (length (numbers expected.now.zones.now))
@@ -430,7 +430,7 @@ fn test_info(info: &Info, expected: &Expected, format: Format) -> Result<(), Cau
     Ok(())
 }
 
-/// Whether an image is of this machine.
+/// Checks that an image is of this machine.
 fn test_ident(info: &Info, ident: &Ident) -> Result<(), Cause>
     ensures ok { IsOk result ↔ (identity_fault (Some ident.now) info.now ≡ None) }
     ensures fault { IfErr result (λ cause. identity_fault (Some ident.now) info.now ≡ Some cause) }

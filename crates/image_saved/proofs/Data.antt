@@ -13,7 +13,7 @@ use Rattle.image_saved.specs.Ahead.{data_words, listed, listed_data}
 use Rattle.image_saved.specs.Found.{page_at}
 use Rattle.image_saved.specs.Saved.{data_before, has_data, has_page, word_in}
 
--- a number counts once where it passes
+-- a number counts once if it passes
 abbrev pub once : Bool → ℕ
 once t = cond t 1 0
 
@@ -71,7 +71,7 @@ counted_up p i (suc n) le = elim (cases_lt i (suc n)) [
   | inr same ↦ let e : i ≡ suc n = omega arith in omega (arith, ap (counted p) e)
 ]
 
--- and more where one of them passes
+-- and more if one of the further numbers passes
 pub counted_inside : (p : ℕ → Bool) (i n : ℕ) → i < n → p i ≡ true → counted p i + 1 ≤ counted p n
 counted_inside p i n lt passes = omega (arith, counted_up p (suc i) n (omega arith), counted_more p i, one_yes (p i) passes)
 
@@ -125,7 +125,7 @@ data_added format pages page k n size le =
     ap (has_page format) (listed_last pages page (512 * k + j) (at ∙ sym size) ∙ ap (word page) rest)) in
     omega (arith, both, old, new)
 
--- in the plain format each has one
+-- in the plain format each number has a data page
 pub data_plain : (pages : List (List ℕ)) (n : ℕ) → listed_data Plain pages n ≡ n
 data_plain pages n = counted_all (λ j. has_page Plain (listed pages j)) n (λ j lt. refl)
 

@@ -39,7 +39,7 @@ use Rattle.image_saved.proofs.Searching.{counts_room, fine_counts}
 abbrev is_data : (n : ℕ) → List (List ℕ) → ℕ → Bool
 is_data n pages j = ltb j n && has_page SkipZeros (word_in (page_at pages) j)
 
--- so many of the first words after the info page are such ones
+-- how many of the first m words after the info page are one of n numbers and have a data page
 abbrev data_in : (n : ℕ) → List (List ℕ) → ℕ → ℕ
 data_in n pages m = counted (is_data n pages) m
 

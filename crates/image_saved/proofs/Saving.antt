@@ -40,7 +40,7 @@ pick_same : (t u : Bool) (at other : ℕ → List ℕ) (p q k n : ℕ) → t ≡
 pick_same true u at other p q k n e f same far = same p far ∙ ap other f ∙ ap (λ (x : Bool). cond x (other q) zero_page) e
 pick_same false u at other p q k n e f same far = ap (λ (x : Bool). cond x (other q) zero_page) e
 
--- streams whose first pages are the same have the same page of a page frame that these tell
+-- streams whose first pages are the same have the same page of a page frame, if these pages determine it
 pub words_same : (at other : ℕ → List ℕ) (n i : ℕ) → ((k : ℕ) → k < n → at k ≡ other k) → 1 + i / 512 < n → word_in at i ≡ word_in other i
 words_same at other n i same lt = ap (λ (p : List ℕ). word p (i % 512)) (same (1 + i / 512) lt)
 
@@ -92,7 +92,7 @@ unsaved_in_chain (Some held) blocks header format pages frame saves first u far 
     subst (λ (f : Format). IsUnsaved f (chain_page (as_it_reads held) header) frame) (format_there held blocks header format saves)
     (unsaved_by format (page_at pages) (chain_page (as_it_reads held) header) (length pages) frame (λ k lt. page_of_first held header pages k first lt) u far)
 
--- the pages that were read tell the page
+-- the pages that were read determine the page
 there : (content : Option Content) (blocks header : ℕ) (q : Pages) (pages : List (List ℕ)) (frame : ℕ) (page : List ℕ) → Stands content blocks header q pages → (s : IsSaved q.format (page_at pages) frame page) → length pages ≡ told_at q.format (page_at pages) s.index + 1 → IsPageThere content blocks header frame page
 there content blocks header q pages frame page stands s far =
     let read = read_given content blocks header q pages stands in
@@ -155,7 +155,7 @@ enough_data content blocks header q info had more frame lists wanted s size a =
 one_less : (k n : ℕ) → n ≡ k + 1 → k ≡ n - 1
 one_less k n e = omega arith
 
--- its data page was read last
+-- the data page of the wanted page frame was read last
 pub page_there : (content : Option Content) (blocks header : ℕ) (q : Pages) (info page : List ℕ) (had more : List (List ℕ)) (frame lists wanted : ℕ) → length more ≡ lists → (a : IsAhead q.format had (counts_in info).image_pages frame lists wanted) → HasRead content blocks header (info ∷ (had ++ more)) q page wanted → IsPageThere content blocks header frame page
 page_there content blocks header q info page had more frame lists wanted size a r =
     let n = (counts_in info).image_pages in

@@ -56,7 +56,7 @@ counts_room SkipZeros c e = go (eqb c.image_pages 0) (leb (meta_of c.image_pages
   go false true false is e = cc
   go false true true is e = leb-true (meta_of c.image_pages + 1) c.pages (sym is)
 
--- The first k number pages don't have the number of the page frame, and so many of their words have a data page.
+-- The first k number pages don't have the number of the page frame, and `earlier` of their words have a data page.
 pub record Searched (content : Option Content) (blocks header : ℕ) (q : Pages) (format : Format) (info : List ℕ) (n frame k earlier : ℕ) : Type 0 where
   pub pages : List (List ℕ)
   pub stands : Stands content blocks header q (info ∷ pages)

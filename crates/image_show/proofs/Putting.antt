@@ -48,7 +48,7 @@ pub one_more : (style : Style) (xs : List Fact) (i : ℕ) (d : Fact) (old mid ne
 one_more style xs i d old mid new lt all here =
     subst (λ (fs : List Fact). Puts style fs old new) (sym (take_more xs i d lt)) (whole_then style (take i xs) (get_or xs i d ∷ []) old mid new all here)
 
--- or a front of it is
+-- or a prefix of that fact is
 pub front_more : (style : Style) (xs : List Fact) (i : ℕ) (d : Fact) (old mid new : Written) → i < length xs → Puts style (take i xs) old mid → PutsFront style (get_or xs i d ∷ []) mid new → PutsFront style xs old new
 front_more style xs i d old mid new lt all here =
     let so_far : PutsFront style (take (i + 1) xs) old new =

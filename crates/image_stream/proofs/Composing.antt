@@ -256,6 +256,6 @@ at_rest content blocks header n p info same h s skips = record {
   skips = skips;
 }
 
--- so of a fork of the pages
+-- the same holds of a fork of the pages
 pub fork_info : (content : Option Content) (blocks header : ℕ) (p q : Pages) (counts : Counts) (info : List ℕ) → HasInfo content blocks header p counts info → (Stands content blocks header p (info ∷ []) → Stands content blocks header q (info ∷ [])) → HasInfo content blocks header q counts info
 fork_info content blocks header p q counts info h f = record { stands = f h.stands; said = h.said; room = h.room }

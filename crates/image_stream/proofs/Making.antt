@@ -112,7 +112,7 @@ begun_of (Some held) blocks header pieces p =
     (pieces_begun held header p.info p.listed p.frames (sym (format_there held blocks header SkipZeros p.saves)) p.read.first p.few p.first p.inside
     (elim p.order [ inl none ↦ inl none | inr (full, given) ↦ inr full ]))
 
--- nothing is left after so many pages as there are
+-- nothing is left after as many pages as there are
 none_left : (xs rest : List (List ℕ)) → length (xs ++ rest) ≡ length xs → xs ++ rest ≡ xs
 none_left xs [] e = append-nil xs
 none_left xs (y ∷ ys) e = absurd (omega (arith, e, length-append xs (y ∷ ys)))

@@ -69,7 +69,7 @@ streamed_earlier content blocks header before then now told end old new Refused 
 streamed_earlier content blocks header before then now told end old new Whole le (w, same) =
     (written_earlier content blocks header before then now old new le w, same)
 
--- so over a disk that reads as before
+-- a stream is the same over a disk that reads as before
 pub streamed_since : (c d : Option Content) (m n header before then now : ℕ) (told mid end : Told) (old new : Option (List ℕ)) (s : Streamed) → c ≡ d → m ≡ n → mid ≡ told → before ≤ then → IsStreamed c m header then now mid end old new s → IsStreamed d n header before now told end old new s
 streamed_since c d m n header before then now told mid end old new s e f t le h =
     streamed_earlier d n header before then now told end old new s le

@@ -15,7 +15,7 @@ use Rattle.image_pages.proofs.Reading.{read_given}
 use Rattle.image_stream.specs.Streamed.{IsCutShort, IsFront, IsWritten}
 use Rattle.image_stream.proofs.Making.{plain_begun, plain_whole}
 
--- these pages were given, and their bytes taken
+-- the pages `given` were given, and their bytes taken
 pub record SoFar (content : Option Content) (blocks header : ℕ) (p : Pages) (old new : Option (List ℕ)) : Type 0 where
   pub given : List (List ℕ)
   pub stands : Stands content blocks header p given

@@ -56,7 +56,7 @@ all_starts chain n starts are last j le =
           subst (λ (k : ℕ). get_or starts k 0 ≡ start_of chain k) at last
     ]
 
--- the same of an index
+-- the same once an index was made
 indexed : (blocks : ℕ) (v : DiskImage) (first pages crc : ℕ) (header info maps starts : List ℕ) (c : Chain) (index : Index) → IsMade index header info pages c starts → c.first ≡ first → c.maps.items ≡ maps → info ≡ chain_of v first 0 → pages ≡ (counts_in info).pages → AreAll blocks v first pages crc maps starts → Agrees (checksum_wanted index.header) crc → IsIndexOf blocks v first header index
 indexed blocks v first pages crc header info maps starts c index made at mapped is count all agrees =
     let chain = chain_of v first in

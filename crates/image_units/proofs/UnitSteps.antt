@@ -77,7 +77,7 @@ unread_behind l first content pages unit before now count i page f fault few len
         len = λ lt. ap is_length (sym same) ∙ len;
       }
 
--- its length is none
+-- the length in the first page of a unit is no length
 pub faulty_length : (l : Limits) (first : ℕ) (content : Option Content) (pages unit count : ℕ) (h : List Name) (page : List ℕ) (place : Place) → HasRead l first content (count + 1) h → is_length (word page 0) ≡ false → IfSome content (λ held. count ≡ start_of (chain_of (as_it_reads held) first) unit) → IfSome content (λ held. (page ≡ chain_of (as_it_reads held) first count) × (place ≡ place_in (as_it_reads held) first count)) → IsFaulty l first content pages unit (finding.UnitLength (unit + 1) place (word page 0))
 faulty_length l first content pages unit count h page place read none at is = record { count = count + 1; history = h; read = read; fault = fault content at is } where
   fault : (content : Option Content) → IfSome content (λ held. count ≡ start_of (chain_of (as_it_reads held) first) unit) → IfSome content (λ held. (page ≡ chain_of (as_it_reads held) first count) × (place ≡ place_in (as_it_reads held) first count)) → IfSome content (λ held. let v = as_it_reads held in (unit_fault (chain_of v first) (place_in v first) pages unit ≡ Some (finding.UnitLength (unit + 1) place (word page 0))) × (count + 1 ≡ pages_before (chain_of v first) unit))
@@ -109,7 +109,7 @@ pub pages-packed : (chain : ℕ → List ℕ) (k n : ℕ) (page before packed : 
 pages-packed chain k n page before packed first is rest =
     rest ∙ ap (λ (x : List ℕ). x ++ bytes_from chain (k + 1) n) (first ∙ is) ∙ sym (bytes_from-first chain k n)
 
--- what it expands to
+-- what the whole unit expands to
 pub outcome-packed : (chain : ℕ → List ℕ) (pages unit k : ℕ) (packed : List ℕ) → k ≡ start_of chain unit → take (4096 * pages_with (length_at chain k)) packed ≡ bytes_from chain k (pages_with (length_at chain k)) → expansion (size_of pages unit) (take (length_at chain k) (drop 8 packed)) ≡ outcome_of chain pages unit
 unfolding outcome_of
 outcome-packed chain pages unit k packed at is =

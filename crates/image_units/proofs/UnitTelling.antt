@@ -128,7 +128,7 @@ says_expanded (Some held) pages unit before now old mid new page place bytes sta
       fault = faulty_unit v old.first pages unit old.count page filled new.count f p (sym is);
     })
 
--- the same, by the names that a call has for the size and the length
+-- a unit that was read, under the names that a call has for its size and length
 pub expanded_by : (number size size' len len' : ℕ) (filled bytes : List ℕ) (o : Option Finding) → size ≡ size' → len ≡ len' → (let all = expansion size (take len (drop 8 filled)) in o ≡ stream_fault (number + 1) size (length all.written) all.fault) → (let all = expansion size (take len (drop 8 filled)) in take (length all.written) bytes ≡ all.written) → (let all = expansion size' (take len' (drop 8 filled)) in (o ≡ stream_fault (number + 1) size' (length all.written) all.fault) × (take (length all.written) bytes ≡ all.written))
 expanded_by number size size' len len' filled bytes o e f is took =
     let at : ℕ → ℕ → Outcome = λ s l. expansion s (take l (drop 8 filled)) in (

@@ -1,4 +1,4 @@
--- Just the lists that spell a command ask for it.
+-- A list asks for a command if and only if it spells the command.
 use Rattle.std.proofs.Common.{◌≡◌, ◌∙◌, ◌<◌, ◌≤◌, ◌^◌, ◌==◌, ◌⊎◌, inl, inr, ℕ, Bool, true, false, not, refl, sym, ap, subst, arith, Option, Some, None, List, [], ◌∷◌, codes, cond, decimal, option_map, option_and_then, nat_eq}
 use Rattle.std.specs.Cmp.Lexicographic.{pointwise}
 use Rattle.std.proofs.lemmas.Slice.Eq.{bytes_eq-Decides}
@@ -74,7 +74,7 @@ over ask words asked e = go (offset_first words) refl e
     go (Some (offset, [])) is h = cc
     go (Some (offset, swap ∷ own)) is h = path offset swap own is (is_path swap) refl h
 
--- with the command's name before them
+-- with the command's name before these words
 named_over : (area : SwapArea) (name : List ℕ) (own words : Words) → IsAfterOffset area.offset (area.swap ∷ own) words → IsSpelledOver area name own (name ∷ words)
 named_over area name own words h = elim h [
   | inl p ↦ inl (p.0, ap (λ (w : Words). name ∷ w) p.1)
@@ -220,7 +220,7 @@ named : (command known : List ℕ) (words : Words) (asked : Asked) → pointwise
     → Spells asked (command ∷ words)
 named command known words asked t h = subst (λ (c : List ℕ). Spells asked (c ∷ words)) (sym (same command known t)) h
 
--- each test of a chain: where it holds this is the answer, and else that
+-- each test of a chain: if it holds this is the result, else that
 either : (b : Bool) (x y : Option Asked) (asked : Asked) → cond b x y ≡ Some asked → ((b ≡ true) × (x ≡ Some asked)) ⊎ (y ≡ Some asked)
 either true x y asked e = inl (refl, e)
 either false x y asked e = inr e
@@ -267,7 +267,7 @@ no_option (b ∷ bs) e = go (b == 45) refl e
     go true t h = cc
     go false t h = rw t refl
 
--- nor a flag, which begins with -
+-- a path is no flag either, since a flag begins with -
 no_option_of : (flag : List ℕ) (swap : List ℕ) → is_path swap ≡ true → pointwise nat_eq swap (45 ∷ flag) ≡ false
 no_option_of flag [] e = cc
 no_option_of flag (b ∷ bs) e = go (b == 45) refl e

@@ -1,4 +1,4 @@
--- What a parse answers, over plain variables.
+-- What a parse returns, over plain variables.
 use Rattle.std.proofs.Common.{◌≡◌, ◌≤◌, ◌↔◌, true, refl, sym, ap, subst, arith, Option, Some, None, List, [], ◌∷◌, ◌-◌, length, map, drop, take}
 use Rattle.std.proofs.lemmas.List.{take_all}
 use Rattle.std.specs.Prelude.{Bool, IsTrue}

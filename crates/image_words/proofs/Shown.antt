@@ -1,4 +1,4 @@
--- Clap answers a list that asks for help or the version by it.
+-- Clap responds with help or the version to a list that asks for it.
 use Rattle.std.proofs.Common.{◌≡◌, ◌≢◌, ◌⊎◌, ◌||◌, inl, inr, Bool, true, false, refl, sym, subst, List, [], ◌∷◌, nat_eq}
 use Rattle.std.specs.List.{AllByRecursion}
 use Rattle.std.specs.Cmp.Lexicographic.{pointwise}
@@ -66,7 +66,7 @@ requests (name ∷ command ∷ flag ∷ []) e =
     inl (of_each (λ flag. fault_of image_app (name ∷ command ∷ flag ∷ []) ≡ kind.DisplayHelp ∷ []) help_flags flag tests.1 flags)
 requests (name ∷ command ∷ flag ∷ more ∷ words) e = cc
 
--- so its error has one of these kinds
+-- clap's error has one of these kinds
 request_kind : (kinds : Kinds) (k : ErrorKind) → IsRequest kinds → IsAmong k kinds → (k ≢ kind.DisplayHelp) × (k ≢ kind.DisplayVersion) → ⊥
 request_kind kinds k (inl is) among other = elim (subst (IsAmong k) is among) [
   | inl h ↦ other.0 h

@@ -58,7 +58,7 @@ pub simple : is_simple image_app ≡ true
 unfolding clap_on_literals
 simple = refl
 
--- the words after the command's name are left to it
+-- the words after the command's name are left to the command
 by_name : (program name : Text) (sub : Shape) (words : List Text) (asked : Asked) → Has name sub → level_passes sub [] nothing_held words false ≡ true
     → matched_by sub.name (rows_after sub.rules [] words) ≡ Some asked → Asks (program ∷ name ∷ words) asked
 by_name program name sub words asked has passes asks = record {

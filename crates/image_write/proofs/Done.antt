@@ -1,4 +1,4 @@
--- What the writes have made of the disk: after so many of them so much reads as laid.
+-- What the writes have made of the disk: after the first k writes their blocks read as laid.
 use Rattle.std.proofs.Common.{◌≡◌, ℕ, ◌+◌, ◌-◌, ◌*◌, ◌/◌, ◌%◌, ◌<◌, ◌≤◌, ◌⊎◌, Bool, true, false, List, [], length, get_or, min, cond, eqb, refl, sym, ap, ◌∙◌, subst, inl, inr, arith, zero-add}
 use Rattle.std.proofs.lemmas.Bool.{cases_lt, cases_order, cases_Bool, cond-true, cond-false}
 use Rattle.std.proofs.lemmas.List.{length-map}
@@ -45,7 +45,7 @@ either_page : (P : List ℕ → Type 0) (made other : ℕ × List ℕ) (b : Bool
 either_page P made other true p q = p
 either_page P made other false p q = q
 
--- what a place tells of its write
+-- what a place says of its write
 abbrev WritesAt : ℕ → ℕ → ℕ → Type 0
 WritesAt pages k place =
     ((k % 512 < 511) × (k + 1 < pages + maps_of pages) × (place ≡ k + 1))

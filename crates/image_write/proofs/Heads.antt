@@ -42,7 +42,7 @@ pub length-stream_pages : (info : Info) (numbers : List ℕ) (saved : List (List
 unfolding stream_pages
 length-stream_pages info numbers saved = let size = length-number_pages numbers in omega (arith, length-append (number_pages numbers) saved)
 
--- Each of them is a page.
+-- Each page of the stream has 4096 bytes.
 
 pub length-concat : (n : ℕ) (xss : List (List ℕ)) → All (λ xs. length xs ≡ n) xss → length (concat xss) ≡ n * length xss
 length-concat n [] h = rw mul-zero refl

@@ -56,7 +56,7 @@ page_of_map free memory w h is =
           ∙ sym (cond-true (eqb (j + 1) (maps_of pages)) 0 (laid_block w.extents free (map_place (j + 1))) (eq-eqb (j + 1) (maps_of pages) no_more)))
     ]
 
--- where it isn't the last one, the next one is begun
+-- if the map isn't the last one, the next map is begun
 pub begun_map : (free : List ℕ) (memory : List (List ℕ)) (w : Writing) (m : MapEntries) → IsWriting free memory w → is_map_write w.info.pages w.written ≡ true → (w.written + 1 ≡ writes_of w.info → ⊥) →
     m.entries ≡ [] → m.link ≡ 0 → IsWriting free memory (record w { written = w.written + 1; block = w.next; entries = m })
 begun_map free memory w m h is more no_entry no_link =
@@ -115,13 +115,13 @@ write_of_page R free w page page' b old new isn't block same made =
     let there : Changes (R place page) old new = subst (λ (b : ℕ). Changes (R b page) old new) block (subst (λ (p : List ℕ). Changes (R b p) old new) same made) in
     subst (λ (at : ℕ × List ℕ). Changes (R at.0 at.1) old new) (sym is) there
 
--- it takes no slot
+-- a write of a map takes no slot
 pub frames_of_map : (frames : List (List ℕ)) (table : ℕ) (info : Info) (free : List ℕ) (k : ℕ) → is_map_write info.pages k ≡ true → frames ≡ with_entries frames table (slots_of_write info free k) 65536
 frames_of_map frames table info free k is =
     let none : slots_of_write info free k ≡ [] = cond-true (is_map_write info.pages k) [] (take (cond (eqb (k % 512) 510) 2 1) (drop (taken_after k) free)) is in
     sym (ap (λ (ss : List ℕ). with_entries frames table ss 65536) none ∙ with_entries-none frames table 65536)
 
--- the same pages with data are written before and after it, where it isn't the last one
+-- the same pages with data are written before and after a write of a map, if it isn't the last write
 pub data_before_map : (info : Info) (k : ℕ) → is_map_write info.pages k ≡ true → (k + 1 ≡ writes_of info → ⊥) → data_written info k ≡ data_written info (k + 1)
 data_before_map info k is more =
     let full : k % 512 ≡ 511 = ⊎_elim (λ e. e) (λ e. absurd (more e)) (map_write info.pages k is) in

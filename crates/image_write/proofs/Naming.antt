@@ -18,7 +18,7 @@ use Rattle.image_write.proofs.Places.{or_left, or_right, or_none, page_write, ta
 use Rattle.image_write.proofs.Taking.{IsTable}
 use Rattle.image_write.proofs.Done.{place_of, block_of_write, write_at}
 
--- each slot that the table names as the image's is one of the first so many of these
+-- each slot that the table names as the image's is one of the first `count` free ones
 abbrev pub NamesOf : List ℕ → ℕ → List (List ℕ) → SlotTable → Type 0
 NamesOf free count frames table = (s : ℕ) → s < table.slots → entry_at frames table.first s ≡ 65536 → Contains (take count free) s
 
@@ -71,7 +71,7 @@ slots_of_image free frames w s h in' =
           ]
     ]
 
--- a step leaves it so
+-- a step leaves the slots that the table names the image's
 pub names_after_write : (free : List ℕ) (frames : List (List ℕ)) (w : Writing) → IsWriting free frames w → IsTable frames w.table → ((s : ℕ) → Contains (slots_of_write w.info free w.written) s → s < w.table.slots) →
     NamesOf free (writes_of w.info) frames w.table → NamesOf free (writes_of w.info) (with_entries frames w.table.first (slots_of_write w.info free w.written) 65536) w.table
 names_after_write free frames w h at below names s lt named =
@@ -130,7 +130,7 @@ laid_has_block extents free stream place lt =
     ∙ ap (laid_block extents free) found.2 in
     subst (λ (x : ℕ). Contains (map block all) x) is (Contains-get_or (map block all) k 0 (omega (arith, length-map all block)))
 
--- a slot that the table names lies on one of them
+-- a slot that the table names lies on one of the laid blocks
 pub names_laid : (extents : List (ℕ × ℕ × ℕ)) (free : List ℕ) (stream : List (List ℕ)) (frames : List (List ℕ)) (table : SlotTable) (s : ℕ) → length stream + maps_of (length stream) ≤ length free →
     NamesOf free (length stream + maps_of (length stream)) frames table → s < table.slots → entry_at frames table.first s ≡ 65536 → Contains (map (λ made. made.0) (laid extents free stream)) (block_of extents s)
 names_laid extents free stream frames table s enough names lt named =

@@ -1,4 +1,4 @@
--- The loader that is made of an image is a loader of it.
+-- The loader that is made from an image is a loader of that image.
 use Rattle.std.proofs.Common.{◌≡◌, cond, ℕ, ◌+◌, ◌-◌, ◌/◌, ◌%◌, ◌<◌, ◌≤◌, Bool, true, not, eqb, inl, inr, nat_eq, List, [], ◌∷◌, length, get_or, map, Some, None, Contains, sym, ap, subst, ◌∙◌, refl, arith}
 use Rattle.std.specs.Cmp.Lexicographic.{pointwise, other_text}
 use Rattle.std.specs.List.{list_any, range_with_len}
@@ -141,7 +141,7 @@ is_loader blocks held layout dump is made slots inside =
           omega arith;
     }
 
--- Its identity is the image's.
+-- The loader's identity is the image's.
 
 same_is_true : (xs : List ℕ) → pointwise nat_eq xs xs ≡ true
 same_is_true xs = elim (cases_Bool (pointwise nat_eq xs xs)) [ inl e ↦ e | inr e ↦ absurd (other_text xs xs (sym e) refl) ]

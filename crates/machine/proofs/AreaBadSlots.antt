@@ -1,4 +1,4 @@
--- Whether an area's bad slots are just those of a slot table.
+-- Whether an area's bad slots are exactly those of a slot table.
 use Rattle.std.proofs.Common.{◌≡◌, ◌<◌, ℕ, Bool, true, false, not, eqb, cond, List, ◌∷◌, length, take, min, get_or, refl, sym, ap, ◌∙◌, subst, inl, inr, arith}
 use Rattle.std.proofs.lemmas.Bool.{eqb-true, eq-eqb, false≢true}
 use Rattle.std.proofs.lemmas.List.{get_or_default, take_min}
@@ -12,7 +12,7 @@ use Rattle.plain_machine.specs.UsableArea.{bad_slots_of, has_bad_slots_of}
 use Rattle.machine.proofs.ListTests.{all_each, each_all}
 use Rattle.machine.proofs.Rows.{any_Contains, any_true}
 
--- each bad slot of a slot table of so many entries is one of a list, and each of the list that the table has is bad there
+-- each bad slot of the machine's slot table is in a list, and each slot of the list that the table has is bad there
 abbrev pub AreNamed : Hardware → Memory → List ℕ → Type 0
 AreNamed h m named = (s : ℕ) → s < h.slots → raw_slot_entry h m s ≡ bad_slot → has named s ≡ true
 
@@ -51,7 +51,7 @@ just_has h m area all =
       λ s lt e. eqb-true (raw_slot_entry h m s) bad_slot ((agreeing (eqb (raw_slot_entry h m s) bad_slot) (has (bad_slots_of area) s) (here s lt)).1 e),
     )
 
--- both halves
+-- both parts
 pub decides_bad_slots : (h : Hardware) (m : Memory) (area : Area) (b : Bool) → (b ≡ true → AreNamed h m (bad_slots_of area) × AreBad h m (bad_slots_of area)) → (AreNamed h m (bad_slots_of area) → AreBad h m (bad_slots_of area) → b ≡ true) → b ≡ has_bad_slots_of h m area
 decides_bad_slots h m area true sound whole = let both = sound refl in sym (has_just h m area both.0 both.1)
 decides_bad_slots h m area false sound whole = not_true (has_bad_slots_of h m area) (λ e. let both = just_has h m area e in false≢true (whole both.0 both.1)) where
@@ -69,7 +69,7 @@ bad_by_place h m named first rest s lt e =
       | inr at ↦ subst P (get_or_default named at.0 0 s at.1 ∙ at.2) (rest at.0 at.1) lt
     ]
 
--- one that isn't bad
+-- a slot that isn't bad
 pub place_is_named : (named : List ℕ) (k : ℕ) → k < length named → has (0 ∷ named) (get_or named k 0) ≡ true
 place_is_named named k lt = any_true (0 ∷ named) (get_or named k 0) (Contains-tail 0 named (get_or named k 0) (k, lt, get_or_default named k (get_or named k 0) 0 lt))
 

@@ -32,7 +32,7 @@ of_passing extents slots last blocks map passing =
     let is = block_of-slot extents slots i s map at in
     (s, Contains-range 0 (last + 1) s (omega arith) (omega arith), λ lt. omega arith)
 
--- a slot past the last extent lies as far behind its begin
+-- a slot past the last extent lies where that extent would go on
 past_last : (extents : List (ℕ × ℕ × ℕ)) (slots s : ℕ) → IsFileMap extents slots → slots ≤ s → let e = extent_at extents (length extents - 1) in (block_of extents s ≡ e.2 + (s - e.0)) × (e.0 ≤ s)
 past_last extents slots s map past =
     let some = map.count.some in
@@ -75,7 +75,7 @@ beyond_to : (extents : List (ℕ × ℕ × ℕ)) (slots last blocks : ℕ) → I
 beyond_to extents slots last blocks map (inl le) = (last, Contains-range 0 (last + 1) last (omega arith) (omega arith), λ lt. omega arith)
 beyond_to extents slots last blocks map (inr passing) = of_passing extents slots last blocks map passing
 
--- the test of each slot says just that the last one lies beyond, or an extent passes
+-- some slot fails its test if and only if the last slot lies beyond the disk, or an extent does
 pub decides_beyond : (extents : List (ℕ × ℕ × ℕ)) (slots last blocks : ℕ) → IsFileMap extents slots →
     Decides (list_any (λ s. not (nat_lt (block_of extents s) blocks)) (range_with_len 0 (last + 1))) ((blocks ≤ block_of extents last) ⊎ SomePasses extents last blocks)
 decides_beyond extents slots last blocks map =

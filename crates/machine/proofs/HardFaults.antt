@@ -54,7 +54,7 @@ no_fault h z s t r e = fault_is h true true true true true z s t r e
 pub refuses : (h : Hardware) (f : HardFault) → hard_fault h ≡ Some f → (false ≡ true) ↔ (hard_fault h ≡ None)
 refuses h f e = (λ never. absurd (false≢true never), λ none. absurd (none-some f (sym none ∙ e)))
 
--- there is none just where all five pass
+-- there is no fault if and only if all five tests pass
 passes : (h : Hardware) (b : Bool) (f : HardFault) → hard_fault h ≡ None → (b ≡ false → hard_fault h ≡ Some f) → b ≡ true
 passes h b f none fails = elim (cases_Bool b) [ inl e ↦ e | inr e ↦ absurd (none-some f (sym none ∙ fails e)) ]
 

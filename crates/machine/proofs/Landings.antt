@@ -52,7 +52,7 @@ own_entry h m t s fits is =
     let lt = ltb-true s h.slots both.0 in
     (lt, sym (slot_entry-plain h m s fits lt) ∙ eqb-true (slot_entry h m s) t both.1)
 
--- it is given back in the memory and in the page frames
+-- the slot is given back in the memory and in the page frames
 freed : (machine : Machine) (frames : Memory) (a : Running) (t s p : ℕ) → IsHardware machine.hw → HasSlots machine.hw frames → length frames ≡ top machine.hw.zones → ShowsAs machine frames a → IsFlight machine.hw a t s p →
     Mirrors machine.hw (with_entry frames machine.hw.slot_table s 0) (with_entry a.memory machine.hw.slot_table s 0) × (s < machine.hw.slots)
 freed machine frames a t s p hw has size shows is =
@@ -178,7 +178,7 @@ row_of_end machine machine' frames new t (Some (comes_in s p)) r before now hw h
       (subst (λ (q : Reply). HasEnd machine frames t machine' frames q before) (sym failed.0) (read_fault_row machine machine' frames t s p before flies land))
 ]
 
--- its reply, and its call of the disk
+-- the reply of the end of an operation, and its call of the disk
 pub answer_of_end : (h : Hardware) (flight : Option Flight) (frames new : Memory) (r : Reply) (before now : Option disk.Content) → Ends h flight frames new r before now → Answers flight r
 answer_of_end h None frames new r before now ends = ends
 answer_of_end h (Some (goes_out s p)) frames new r before now ends = elim ends [ inl done ↦ inl done.0 | inr failed ↦ inr failed.0 ]
@@ -195,7 +195,7 @@ call_of_end h (Some (goes_out s p)) frames new r before now ends = elim ends [
 ]
 call_of_end h (Some (comes_in s p)) frames new r before now ends = ends.1
 
--- it leaves the frame table's entries
+-- the end of an operation leaves the frame table's entries
 pub entries_of_end : (h : Hardware) (blocks : ℕ) (flight : Option Flight) (frames new : Memory) (t : ℕ) (r : Reply) (before now : Option disk.Content) → IsHardware h → AreReserved h frames →
     ((s p : ℕ) → flight ≡ Some (goes_out s p) → IsInFlight h blocks frames t s p) → ((s p : ℕ) → flight ≡ Some (comes_in s p) → IsInFlight h blocks frames t s p) → Ends h flight frames new r before now →
     (q : ℕ) → Contains (numbers h.zones) q → frame_entry h new q ≡ frame_entry h frames q

@@ -57,7 +57,7 @@ reserved-shown h m frames hw fits same =
 
 -- Unfinished operations.
 
--- where there is none, each has what it needs
+-- if there is no unfinished operation, each has what it needs
 pub in_flight-none : (h : Hardware) (blocks : ℕ) (frames : Memory) (flights : List Flight) → ((t : ℕ) → flights_in flights t ≡ None) → AreInFlight h blocks frames flights
 in_flight-none h blocks frames flights none = record {
   outs = λ t s p e. absurd (none-some (plain.goes_out s p) (sym (none t) ∙ e));
@@ -87,7 +87,7 @@ none_there : (o : Option plain.Flight) → is_some o ≡ false → o ≡ None
 none_there None e = refl
 none_there (Some f) e = absurd (false≢true (sym e))
 
--- where no task has one, there is none
+-- if no task has an unfinished operation, there is none
 pub flights-idle : (h : Hardware) (blocks : ℕ) (frames : Memory) (flights : List Flight) → AreInFlight h blocks frames flights → find (λ u. is_some (flights_in flights u)) (range_with_len 1 64) ≡ None → (t : ℕ) → flights_in flights t ≡ None
 flights-idle h blocks frames flights are none t = by_task (flights_in flights t) refl where
   of_task : IsTask t → flights_in flights t ≡ None

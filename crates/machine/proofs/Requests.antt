@@ -80,7 +80,7 @@ claim_done h t p frames hw task size reserved in' valid free =
 
 -- What needs a page frame of the task's own.
 
--- refused where it isn't
+-- refused if the page frame isn't the task's own
 pub own_refused : (h : Hardware) (t p : ℕ) (o : TaskOp) (frames : Memory) (r : Reply) → IsHardware h → length frames ≡ top h.zones → ((a : Running) → op_refusal h a t o ≡ own_refusal h a.memory t p) → own_refusal h frames t p ≡ Some r → HasFrameRow h t o frames frames r
 own_refused h t p o frames r hw size asks refused =
     row_refused h t o frames r size (λ a mirrors. asks a ∙ own_shown h frames a.memory t p hw mirrors ∙ refused)

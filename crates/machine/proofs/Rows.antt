@@ -59,7 +59,7 @@ any_true (x ∷ xs) p in' =
       | inr rest ↦ or_right (eqb x p) (list_any (λ q. eqb q p) xs) (any_true xs p rest)
     ]
 
--- a page frame is valid just where the test says so
+-- a page frame is valid if and only if the test says so
 pub valid_true : (h : Hardware) (p : ℕ) → Contains (numbers h.zones) p → is_valid h p ≡ true
 valid_true h p in' = any_true (numbers h.zones) p in'
 
@@ -181,7 +181,7 @@ row_done h t o old new r next size asked becomes slots flag reason ops idle a ru
       refl,
     )
 
--- why a page frame isn't the task's, by what is known of it
+-- why a page frame isn't the task's, by what is known of the page frame
 pub own_no_frame : (h : Hardware) (m : Memory) (t p : ℕ) → (Contains (numbers h.zones) p → ⊥) → own_refusal h m t p ≡ Some reply.NoFrame
 own_no_frame h m t p out = ap (λ (b : Bool). or_else (refused_if (not b) reply.NoFrame) (refused_if (not (eqb (owner_of (frame_entry h m p)) t)) reply.NotOwner)) (valid_false h p out)
 

@@ -162,7 +162,7 @@ slot_entry-seen h m s has ne =
     entry_at-with_entries_other m h.slot_table h.slots (image_slots h.slots h.slot_table m) 0 s has.pages has.table
     (λ k in'. let it = image_slot h.slots h.slot_table m k in' in (it.0, λ e. ne (subst (λ (j : ℕ). raw_slot_entry h m j ≡ 65536) e it.1)))
 
--- one of the image's is seen as free
+-- an entry that is the image's is seen as free
 pub slot_entry-image : (h : Hardware) (m : Memory) (s : ℕ) → HasSlots h m → s < h.slots → raw_slot_entry h m s ≡ 65536 → raw_slot_entry h (seen_frames h m) s ≡ 0
 slot_entry-image h m s has lt is =
     entry_at-with_entries_same m h.slot_table h.slots (image_slots h.slots h.slot_table m) 0 s has.pages has.table (omega arith)

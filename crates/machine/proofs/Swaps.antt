@@ -134,7 +134,7 @@ not_in_flight (Some flight) e = absurd (false≢true (sym e))
 pub row_of_frames : (machine : Machine) (frames new : Memory) (t : ℕ) (o : TaskOp) (r : Reply) → flights_in machine.flights t ≡ None → HasFrameRow machine.hw t o frames new r → SimulatesRequest machine frames t o machine new r
 row_of_frames machine frames new t o r idle row = λ none a shows. row machine.held (reason_of machine.area) (flights_in machine.flights) idle a shows
 
--- one of a task whose operation isn't finished
+-- a request of a task whose operation isn't finished
 
 why_in_flight : (h : Hardware) (t : ℕ) (o : TaskOp) (a : Running) → is_some (a.flights t) ≡ true → refusal h (on a) (event.Task t o) ≡ Some reply.InFlight
 unfolding refusal
@@ -295,7 +295,7 @@ reason_some : (area : Result Area NoSwap) → is_ok area ≡ false → is_some (
 reason_some (Ok area) e = absurd (false≢true (sym e))
 reason_some (Err why) e = refl
 
--- it is a slot, and free
+-- the least free slot is a slot, and free
 pub first_free : (h : Hardware) (frames : Memory) (s : ℕ) → slice_get (free_slots h.slots h.slot_table frames) 0 ≡ Some s → (s < h.slots) × (raw_slot_entry h frames s ≡ 0)
 first_free h frames s e = free_slot h.slots h.slot_table frames s (first_in (free_slots h.slots h.slot_table frames) s e) where
   first_in : (xs : List ℕ) (s : ℕ) → slice_get xs 0 ≡ Some s → Contains xs s

@@ -157,7 +157,7 @@ none_found test (x ∷ xs) e = elim (cases_Bool (test x)) [
   | inr is ↦ ap (λ (c : Bool). c || list_any test xs) is ∙ none_found test xs (sym (ap (λ (c : Bool). cond c (Some x) (find test xs)) is) ∙ e)
 ]
 
--- Both tables.
+-- Both tables together.
 
 -- a result that names the number found, if one is
 abbrev pub Tells : Option ℕ → Result (Unit {0}) ℕ → Type 0

@@ -35,7 +35,7 @@ inside zones first end j h within reaches from below =
       ];
     }
 
--- it hasn't
+-- zone j doesn't have page frame `end`
 outside : (zones : List (ℕ × ℕ)) (first end j : ℕ) → Reaches zones first end j → ((zone_at zones j).0 ≤ end → end < zone_end (zone_at zones j) → ⊥) → Reaches zones first end (j + 1)
 outside zones first end j reaches out = record {
   from = reaches.from;
@@ -61,7 +61,7 @@ reaches_more zones first end end' j h within reaches if_inside if_outside =
       ]
     ]
 
--- after the last zone: a run from `first` on is valid just where it ends at `end` or before
+-- after the last zone: a run from `first` on is valid if and only if it ends at `end` or before
 pub reaches_all : (zones : List (ℕ × ℕ)) (first count end j : ℕ) → length zones ≤ j → Reaches zones first end j → (first + count ≤ end) ↔ ((p : ℕ) → first ≤ p → p < first + count → Contains (numbers zones) p)
 reaches_all zones first count end j over reaches = (
   λ le p from below. reaches.valid p from (omega arith),

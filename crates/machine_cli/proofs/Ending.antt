@@ -29,7 +29,7 @@ runs_with w c end h m core hw frames stands =
     let parts = on_parts w c run.0 (subst (StandsFor w c) run.1 stands) in
     (run.0, run.1, subst (λ (g : Hardware). IsSameMemory g run.0.memory m) hw (subst (IsSameMemory (hardware_of w) run.0.memory) (sym frames) parts.memory.same))
 
--- one that doesn't run stands for none
+-- a world that doesn't run stands for no machine that runs
 pub runs_not : (w : World) (c : disk.Content) (end : State) → ((c : disk.Content) (a : State) → StandsFor w c a → activity_in a ≢ runs) → StandsFor w c end → RunsNot end
 runs_not w c end idle stands a e = idle c end stands (ap activity_in e)
 

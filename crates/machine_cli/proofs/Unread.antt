@@ -1,4 +1,4 @@
--- From why one of two dumps wasn't read to what is told of it.
+-- From why one of two dumps wasn't read to what is printed about it.
 use Rattle.std.proofs.Common.{ℕ, List, Option, refl}
 use Rattle.dump_file.specs.Dump.{DumpValue}
 use Rattle.swsusp_cli.specs.Stops.{IsStopTold, LacksDump}

@@ -1,4 +1,4 @@
--- Just the lists that spell a command ask for it.
+-- A list asks for a command if and only if it spells the command.
 use Rattle.std.proofs.Common.{◌≡◌, ◌∙◌, ◌<◌, ◌&&◌, ◌⊎◌, inl, inr, ℕ, Bool, true, false, refl, sym, ap, subst, arith, Option, Some, None, List, [], ◌∷◌, codes, cond, nat_eq, nat_lt}
 use Rattle.std.proofs.lemmas.Bool.{ltb-true, lt-ltb}
 use Rattle.std.specs.Cmp.Lexicographic.{pointwise}
@@ -68,7 +68,7 @@ named : (command known : List ℕ) (words : Words) (asked : Asked) → pointwise
     → Spells asked (command ∷ words)
 named command known words asked t h = subst (λ (c : List ℕ). Spells asked (c ∷ words)) (sym ((bytes_eq-Decides command known).0 t)) h
 
--- each test of a chain: where it holds this is the answer, and else that
+-- each test of a chain: if it holds this is the result, else that
 either : (b : Bool) (x y : Option Asked) (asked : Asked) → cond b x y ≡ Some asked → ((b ≡ true) × (x ≡ Some asked)) ⊎ (y ≡ Some asked)
 either true x y asked e = inl (refl, e)
 either false x y asked e = inr e

@@ -1,4 +1,4 @@
--- A set's members are page frame numbers, so they are below 65536, and no more than so many.
+-- A set's members are page frame numbers, so they are below 65536, and at most 65536 of them.
 use Rattle.std.proofs.Common.{ℕ, ◌<◌, ◌≤◌, List, length, arith}
 use Rattle.std.proofs.lemmas.List.Elements.{All-contains}
 use Rattle.std.specs.List.{Contains}

@@ -23,7 +23,7 @@ pub record AfterBit (b : Inside) (p v : ℕ) (place : ℕ × ℕ) (words block :
   pub read : words ≡ get_or b.bits.items place.0 words
   pub change : ChangesBit place.1 v words block
 
--- as `place`, which read the blocks as `runs`, and the change of the words tell it
+-- the bit of p is now v, with `place` found in `runs`, which are the runs of the bitmap
 pub after_bit : (b : Inside) (p v : ℕ) (place : ℕ × ℕ) (words block : List ℕ) {runs : List (ℕ × ℕ)} → IsKept b → runs ≡ b.runs.items → IsPlace runs p place → words ≡ get_or b.bits.items place.0 words → ChangesBit place.1 v words block → AfterBit b p v place words block
 after_bit b p v place words block {runs} kept same at read change = record { kept = kept; at = kept_place b runs p place same at; read = read; change = change }
 

@@ -37,7 +37,7 @@ place_below b p place h at =
     let bit = at.bit in
     omega arith
 
--- the block's words tell whether p is a member
+-- the block's words say whether p is a member
 pub member_by_bit : (b : Inside) (p : ℕ) (place : ℕ × ℕ) (words : List ℕ) → IsKept b → IsPlace b.runs.items p place → words ≡ get_or b.bits.items place.0 words → (bit_of words place.1 ≡ 1) ↔ Contains (members_of b.runs.items b.bits.items) p
 member_by_bit b p place words h at is =
     let bits = h.bits in

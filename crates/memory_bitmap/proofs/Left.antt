@@ -1,4 +1,4 @@
--- The members that are left, by the least of them.
+-- The members that are left, by the least one.
 use Rattle.std.proofs.Common.{◌≡◌, ℕ, ◌+◌, ◌<◌, ◌≤◌, leb, Bool, true, false, cond, List, [], ◌∷◌, filter, Option, slice_get, Some, None, refl, sym, ap, ◌∙◌, arith, subst, Contains}
 use Rattle.std.specs.List.Sorted.{IsStrictlyIncreasing}
 use Rattle.std.proofs.lemmas.Bool.{false≢true, cond-true, cond-false, le-leb, lt-leb, leb-true, leb-false}
@@ -20,14 +20,14 @@ none_left from (x ∷ xs) e = by_test (leb from x) e (none_left from xs) where
   by_test true e rest = absurd (false≢true (ap is_none e))
   by_test false e rest = rest e
 
--- all of them, where they are above
+-- all members are left if all are at or above `from`
 pub all_above : (from : ℕ) (xs : List ℕ) → ((y : ℕ) → Contains xs y → from ≤ y) → filter (leb from) xs ≡ xs
 all_above from [] above = refl
 all_above from (x ∷ xs) above =
     cond-true (leb from x) (x ∷ filter (leb from) xs) (filter (leb from) xs) (le-leb from x (above x (Contains-head x xs)))
     ∙ ap (λ (ys : List ℕ). x ∷ ys) (all_above from xs (λ y in'. above y (Contains-tail x xs y in')))
 
--- the least of them is not below
+-- the least member that is left isn't below `from`
 pub least_above : (from p : ℕ) (xs : List ℕ) → first_from xs from ≡ Some p → from ≤ p
 least_above from p [] e = absurd (false≢true (sym (ap is_none e)))
 least_above from p (x ∷ xs) e = by_test (leb from x) refl e (least_above from p xs) where

@@ -49,7 +49,7 @@ next_member members yielded left rest member up all next =
 pub all_yielded : (members yielded left : List ℕ) → yielded ++ left ≡ members → left ≡ [] → yielded ≡ members
 all_yielded members yielded left all none = sym (append-nil yielded) ∙ ap (λ (zs : List ℕ). yielded ++ zs) (sym none) ∙ all
 
--- By places: what a call of `next` answers where the members from place k on are left.
+-- By places: what a call of `next` returns when the members from place k on are left.
 pub yields_next : (members : List ℕ) (k : ℕ) (answer : Option ℕ) (old new : Iter) → YieldsFirst left_in old answer new → left_in old ≡ drop k members → k < length members → (answer ≡ Some (get_or members k 0)) × (left_in new ≡ drop (k + 1) members)
 yields_next members k None old new yields left lt =
     let e = ap length (sym yields.0 ∙ left) in

@@ -6,7 +6,7 @@ use Rattle.std.proofs.lemmas.Map.Keys.{apart_from_distinct}
 use Rattle.std.specs.List.{IsDistinct}
 use Rattle.definitions.specs.Tables.{frame, with_frame}
 
--- those before it stay
+-- the pages before the k-th stay
 kept : (xs : List ℕ) (k : ℕ) (frames : List (List ℕ)) (page : List ℕ) → IsDistinct nat_eq xs → k < length xs → map (frame (with_frame frames (get_or xs k 0) page)) (take k xs) ≡ map (frame frames) (take k xs)
 kept xs k frames page distinct lt =
     let p = get_or xs k 0 in

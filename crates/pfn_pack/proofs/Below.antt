@@ -54,7 +54,7 @@ left_from (x ∷ xs) p up = elim (cases_lt x p) [
       all_above p (x ∷ xs) above ∙ ap (λ (n : ℕ). drop n (x ∷ xs)) (sym (count_below-none (x ∷ xs) p above))
 ]
 
--- these are the members from p up to before r
+-- `ys` are the members of `xs` from p up to before r
 pub record AreBetween (xs : List ℕ) (p r : ℕ) (ys : List ℕ) : Type 0 where
   pub ascending : IsStrictlyIncreasing ys
   pub members : (q : ℕ) → Contains ys q → Contains xs q × (p ≤ q) × (q < r)
@@ -123,7 +123,7 @@ next_least xs p r up lt (j, within, is) le =
       ]
     ]
 
--- the least member from a number on is the one at the place that the count tells
+-- the least member from p on is the one at the place that `count_below` gives
 pub next_is : (xs : List ℕ) (p : ℕ) → IsStrictlyIncreasing xs → count_below xs p < length xs → first_from xs p ≡ Some (get_or xs (count_below xs p) 0)
 next_is xs p up lt =
     let k = count_below xs p in

@@ -1,9 +1,9 @@
--- The first of some answers.
+-- The first result among some.
 use Rattle.std.proofs.Common.{◌≡◌, ℕ, ◌+◌, ◌<◌, ◌≤◌, ◌↔◌, zero, suc, Option, Some, None, Result, Ok, Err, IsOk, refl, ap, ◌∙◌, subst, inl, inr, add-one, arith}
 use Rattle.std.proofs.lemmas.Bool.{cases_lt}
 use Rattle.pfn_pack.specs.Numbers.{or_else, first_below}
 
--- one answer more, after none
+-- one more result, after none
 pub first_below-more : {A : Type 0} (f : ℕ → Option A) (j : ℕ) → first_below f j ≡ None → first_below f (j + 1) ≡ f j
 first_below-more f j none = ap (first_below f) (add-one j) ∙ ap (λ x. or_else x (f j)) none
 
@@ -29,7 +29,7 @@ first_below-none f j (suc n) lt none =
       | inr ge ↦ subst (λ (k : ℕ). f k ≡ None) (let e : n ≡ j = omega arith in e) both.1
     ]
 
--- An answer that is refused with the fault that there is, and one that isn't refused.
+-- A result that is refused with the fault that there is, and one that isn't refused.
 
 pub told_ok : {A E : Type 0} (r : Result A E) (o : Option E) (e : E) → r ≡ Err e → o ≡ Some e → IsOk r ↔ (o ≡ None)
 told_ok (Ok x) o e r_is o_is = cc

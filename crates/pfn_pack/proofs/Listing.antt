@@ -73,7 +73,7 @@ above_before last p h = elim (cases_lt last p) [
   | inr ge ↦ absurd (let some = cond-true (leb p last) (Some (PfnOrder last p)) None (le-leb p last ge) in let no : Some (PfnOrder last p) ≡ None = sym some ∙ h in cc)
 ]
 
--- it is above all that were read before
+-- a number without a fault is above all that were read before
 above : (before : Option ℕ) (p : ℕ) (members : List ℕ) → IsUpTo before members → order_fault before p ≡ None → (q : ℕ) → Contains members q → q < p
 above None p members up h q in' = absurd (up q in')
 above (Some last) p members up h q in' = let le = up q in' in let lt = above_before last p h in omega arith

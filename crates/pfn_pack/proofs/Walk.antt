@@ -204,7 +204,7 @@ passed_word set w word from low width h at span passed =
       others = λ q b in' at_q le. let less = below_by_word set (base + top) (w / 512) q b h is.0 at_q (omega arith) in omega arith;
     }
 
--- and they are so many more
+-- the count rises by the number of members in the span of a word
 pub counted_word : (set : FrameSet) (w word from low width : ℕ) → IsFrameSet set → IsWord set w word → IsSpan word low width → IsPassed set w from → count_below set.members (start set (w / 512) + 64 * (w % 512) + low + width) ≡ count_below set.members from + count_ones word
 counted_word set w word from low width h at span passed =
     let base = start set (w / 512) + 64 * (w % 512) in

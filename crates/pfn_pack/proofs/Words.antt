@@ -27,7 +27,7 @@ one_bit b t lt = elim (cases_eq b 1) [
       ∙ sym (ap length (cond-false (eqb b 1) (t ∷ []) [] (ne_eqb b 1 ne)))
 ]
 
--- the low k bits of a number have so many that are 1
+-- the number of 1s among the low k bits of a number
 ones_of_low : (n k : ℕ) → count_ones (n % 2 ^ k) ≡ length (bits_of n k)
 ones_of_low n zero = let le = ones-le 0 (n % 2 ^ 0) (mod_below n (2 ^ 0) (pow_pos 0)) in omega arith
 ones_of_low n (suc k) =

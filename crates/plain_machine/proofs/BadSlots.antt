@@ -94,7 +94,7 @@ pub bad_set-usable : (h : Hardware) (v : disk.DiskImage) (m : Memory) → dump_a
 unfolding dump_area_fault
 bad_set-usable h v m e = first-right (area_fault h v) (bad_set_fault h m (area_kind (area_block h v))) e
 
--- it looks at the slots' entries alone
+-- the area's test looks only at the slots' entries
 pub dump_area-same : (h : Hardware) (v : disk.DiskImage) (m n : Memory) → SameSlots h m n → dump_area_fault h v n ≡ dump_area_fault h v m
 unfolding dump_area_fault
 dump_area-same h v m n same = ap (first_fault (area_fault h v)) (bad_set-same h m n (area_kind (area_block h v)) same)

@@ -1,4 +1,4 @@
--- Which call of a hibernation comes after so many steps.
+-- Which call of a hibernation comes after k steps.
 use Rattle.std.proofs.Common.{◌≡◌, ◌≤◌, ◌<◌, ℕ, ◌+◌, ◌-◌, zero, suc, ltb, true, Option, Some, None, refl, sym, ap, ◌∙◌, subst, inl, inr, arith}
 use Rattle.std.proofs.lemmas.Bool.{cases_lt, cond-true, cond-false, lt-ltb, le-ltb}
 use Rattle.plain_machine.specs.Image.{Image, pages_of, maps_of, hibernate_steps}
@@ -82,7 +82,7 @@ synced_from i k = by_call (hibernation_call i k) (is_at i k) where
   by_call (Some syncs_mark) at le = refl
   by_call None at le = refl
 
--- Behind the fourth step of a resume the image is read.
+-- After the fourth step of a resume the image is read.
 pub load_call-late : (k : ℕ) → 4 ≤ k → load_call k ≡ reads_image
 load_call-late zero le = absurd (omega arith)
 load_call-late (suc zero) le = absurd (omega arith)

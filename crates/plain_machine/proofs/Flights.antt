@@ -30,7 +30,7 @@ none_there : (o : Option Flight) → is_some o ≡ false → o ≡ None
 none_there None e = refl
 none_there (Some f) e = absurd (false≢true (sym e))
 
--- where none is busy no task has one
+-- if no task is busy, no task has an unfinished operation
 pub idle_tasks : (a : Running) → busy a ≡ None → (t : ℕ) → IsTask t → a.flights t ≡ None
 idle_tasks a none t is =
     let some = is.some in

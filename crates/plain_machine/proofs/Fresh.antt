@@ -96,7 +96,7 @@ pub table_frame-test : (h : Hardware) (f : ℕ) → IsTableFrame h f → is_tabl
 table_frame-test h f (inl of) = ap (λ (b : Bool). b || is_of_table h.slot_table h.slots f) (of_table-test h.frame_table (top h.zones) f of)
 table_frame-test h f (inr of) = or_right (is_of_table h.frame_table (top h.zones) f) (is_of_table h.slot_table h.slots f) (of_table-test h.slot_table h.slots f of)
 
--- Its size, and its entries.
+-- The size and the entries of fresh memory.
 
 frame_table_within : (h : Hardware) (m : Memory) → IsHardware h → length m ≡ top h.zones → HasTable m h.frame_table (top h.zones)
 frame_table_within h m hw size =
@@ -118,7 +118,7 @@ zero_page-whole = length-replicate {A = ℕ} 4096 0
 zeros-whole : (n : ℕ) → All IsPage (replicate n zero_page)
 zeros-whole n = All-replicate IsPage n zero_page zero_page-whole
 
--- What fills the tables one entry after another leaves the same.
+-- Filling the tables one entry after another makes the same memory.
 
 abbrev pub filled_frames : Hardware → Memory
 filled_frames h = with_each_entry (fresh_entry h) (numbers h.zones) h.frame_table (replicate (top h.zones) zero_page)

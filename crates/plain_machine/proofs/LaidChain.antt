@@ -21,7 +21,7 @@ use Rattle.plain_machine.specs.Chain.{entry_fault, or_else, first_some, place_fa
 use Rattle.plain_machine.specs.declared.reply.Reply.{Reply}
 use Rattle.plain_machine.specs.declared.reply.Reply.TheVariants.{NoChain, BadBlock, ChainEnds}
 
--- each write of a stream of so many pages reads as it is laid
+-- each write of the stream reads as it is laid
 abbrev pub ReadsLaid : Hardware → List ℕ → List (List ℕ) → disk.DiskImage → Type 0
 ReadsLaid h free stream v =
     (k : ℕ) → k < length stream + maps_of (length stream) →

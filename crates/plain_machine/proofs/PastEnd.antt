@@ -1,4 +1,4 @@
--- Behind the last step of an operation no answer comes.
+-- After the last step of an operation no outcome is possible.
 use Rattle.std.proofs.Common.{◌≡◌, ◌≤◌, ℕ, zero, suc, Bool, ltb, ◌||◌, [], ◌∷◌, None, refl, ap, ap₂, ◌∙◌, arith}
 use Rattle.std.proofs.lemmas.Bool.{cond-false, le-ltb}
 use Rattle.definitions.specs.Disk as disk

@@ -84,7 +84,7 @@ same_by h m n entries pages = record {
 pub same_refl : (h : Hardware) (m : Memory) → IsSameMemory h m m
 same_refl h m = same_by h m m (λ p in'. refl) (λ p in' used. refl)
 
--- the same page set in both: page frames that were equal, and that one, are equal
+-- the same page set in both memories: page frames that were equal, and the one that is set, are equal
 pub frame-set_both : (m n : Memory) (f p : ℕ) (x : List ℕ) → length n ≡ length m → f < length m → (p ≡ f) ⊎ (frame n p ≡ frame m p) → frame (set n f x) p ≡ frame (set m f x) p
 frame-set_both m n f p x size lt this =
     elim (cases_eq p f) [

@@ -47,7 +47,7 @@ replies_short last k (Some cause ∷ rest) = omega arith
 replies_short last k (None ∷ []) = omega arith
 replies_short last k (None ∷ next ∷ rest) = let short = replies_short last (k + 1) (next ∷ rest) in omega arith
 
--- they end at a cause
+-- the replies end at a cause
 pub replies_end : (last : Reply) (k : ℕ) (cs : List (Option Reply)) (i : ℕ) → get_or cs i None ≢ None → length (replies_to last k cs) ≤ i + 1
 replies_end last k [] i there = omega arith
 replies_end last k (Some cause ∷ rest) i there = omega arith

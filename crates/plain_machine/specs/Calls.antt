@@ -33,14 +33,14 @@ hibernation_call i k =
     let written = pages_of i + maps_of (pages_of i) in
     if nat_lt k written then Some writes_page else call_behind_pages (k - written)
 
--- whether the pages are synced before it
+-- whether the pages are synced before this call
 abbrev pub are_synced_before : Option HibernationCall → Bool
 are_synced_before (Some writes_page) = false
 are_synced_before (Some syncs_pages) = false
 are_synced_before call = true
 
--- Where a mark is taken back, block(0) is read, written taken back, and synced. An undo has the block, and begins with
--- its write.
+-- To take a mark back, block(0) is read, written with the mark taken back, and synced. An undo already has the block
+-- and begins with the write.
 pub data BackCall : Type 0 where
   reads_mark : BackCall
   takes_back : BackCall

@@ -1,4 +1,4 @@
--- The events with numbers in the ranges of a script's lines.
+-- The events whose numbers are in the ranges that a script's lines allow.
 use Rattle.std.specs.Prelude.{ℕ, ◌<◌, ◌≤◌, All, ⊤}
 use Rattle.plain_machine.specs.declared.event.Event.{Event}
 use Rattle.plain_machine.specs.declared.event.Event.TheVariants as event
@@ -25,7 +25,7 @@ abbrev pub IsFittingActor : Actor → Type 0
 IsFittingActor actor.Core = ⊤
 IsFittingActor (actor.Task t) = IsTask t
 
--- at most 8 ranges of page frame numbers below 65536, each from its low end to its high end
+-- at most 8 ranges of page frame numbers below 65536, each with its low end first
 pub record IsRange (range : ℕ × ℕ) : Type 0 where
   pub ordered : range.0 ≤ range.1
   pub below : range.1 < 65536
@@ -38,7 +38,7 @@ abbrev pub IsFittingLoader : Loader → Type 0
 IsFittingLoader (loader.Ranges ranges) = AreRanges ranges
 IsFittingLoader loader.Table = ⊤
 
--- calls of the disk that are to fail are numbered from 1 to a million, and at most a million of them
+-- the first call of the disk that is to fail is number 1 to a million from now, and at most a million calls fail
 pub record AreCalls (first count : ℕ) : Type 0 where
   pub some : 1 ≤ first
   pub near : first ≤ 1000000

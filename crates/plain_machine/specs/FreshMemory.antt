@@ -1,5 +1,5 @@
 -- [tables]: the memory of a machine that has just booted, page frame by page frame and entry by entry.
--- In Linux the page allocator frees all memory at a boot but what is reserved: memblock_free_all, mm/memblock.c.
+-- In Linux a boot frees all memory to the page allocator except what is reserved: memblock_free_all, mm/memblock.c.
 use Rattle.std.specs.Prelude.{ℕ, ◌+◌, ◌*◌, ◌-◌, ◌&&◌, List, [], ◌∷◌, map, flat_map, Option, Some, None, if◌then◌else◌}
 use Rattle.std.specs.Prelude.{nat_le, nat_lt}
 use Rattle.std.specs.List.{range_with_len, find}
@@ -10,7 +10,7 @@ use Rattle.definitions.specs.Zones.{numbers, top}
 use Rattle.plain_machine.specs.Loader.{has}
 use Rattle.plain_machine.specs.Machine.{Hardware, Memory, is_of_table, is_table_frame}
 
--- An entry of the frame table: of a table's page frame 0, of a region's its flags, and else free.
+-- An entry of the frame table: 0 for a page frame of a table, the region's flags for one of a region, else free.
 abbrev pub region_flags : Option (ℕ × ℕ × ℕ) → ℕ
 region_flags None = 1
 region_flags (Some r) = r.2
@@ -19,7 +19,8 @@ unfoldable pub fresh_entry : Hardware → ℕ → ℕ
 fresh_entry h p =
     if is_table_frame h p then 0 else region_flags (find (λ r. nat_le r.0 p && nat_lt p (r.0 + r.1)) h.regions)
 
--- Each table fills its page frames: past its last entry, and of a number that is no page frame's, there are zeros.
+-- Each table fills its page frames: there are zeros past its last entry, and for a number that isn't a valid page
+-- frame.
 abbrev pub frame_table_entry : Hardware → ℕ → ℕ
 frame_table_entry h p = if has (numbers h.zones) p then fresh_entry h p else 0
 
@@ -40,11 +41,11 @@ fresh_page h slots p =
 unfoldable pub fresh_memory : Hardware → (ℕ → ℕ) → Memory
 fresh_memory h slots = map (fresh_page h slots) (range_with_len 0 (top h.zones))
 
--- before the area is read: all slots are free
+-- fresh memory before the area is read: all slots are free
 unfoldable pub fresh_frames : Hardware → Memory
 fresh_frames h = fresh_memory h (λ s. 0)
 
--- Memory after a table was filled: the entry of each of these numbers is set by a rule.
+-- Memory with some entries of a table set: each of these entries k becomes `entry k`.
 unfoldable pub with_each_entry : (ℕ → ℕ) → List ℕ → ℕ → Memory → Memory
 with_each_entry entry [] table m = m
 with_each_entry entry (k ∷ ks) table m = with_each_entry entry ks table (with_entry m table k (entry k))

@@ -57,8 +57,8 @@ with_data i = filter (has_data i.format) i.frames
 abbrev pub without_data : Image → List ℕ
 without_data i = map (λ saved. saved.0) (filter (λ saved. not (has_data i.format saved)) i.frames)
 
--- Counts: n saved pages, d of them with data, the number pages, the pages of the stream, its maps, and the steps of
--- a hibernation and of a resume.
+-- Counts: n saved pages, d of them with data, the pages of the stream, the maps that a hibernation writes and a resume
+-- reads for them, and the steps of each.
 abbrev pub n_of : Image → ℕ
 n_of i = length i.frames
 
@@ -118,17 +118,16 @@ laid_map extents free pages j =
     map_page (laid_entries extents free (511 * j) (min 511 (pages - 511 * j)))
     (if j + 1 == maps_of pages then 0 else laid_block extents free (map_place (j + 1)))
 
--- whether write k, from 0, is one of a map: each that follows 511 pages, and the last one (save_image,
+-- whether write k, from 0, writes a map: each write after 511 pages does, and the last one (save_image,
 -- swap_writer_finish)
 abbrev pub is_map_write : ℕ → ℕ → Bool
 is_map_write pages k = (k % 512 == 511) || (k + 1 == pages + maps_of pages)
 
--- the page of the stream that write k writes where it isn't one of a map, as a number from 0
+-- the number, from 0, of the page of the stream that write k writes if it doesn't write a map
 abbrev pub page_of_write : ℕ → ℕ
 page_of_write k = k - k / 512
 
--- Write k of a stream of `pages` pages: the block, and what is written there, which is `page` unless the write is one
--- of a map.
+-- Write k of a stream of `pages` pages: the block, and what is written there, which is a map or else `page`.
 abbrev pub laid_write : List (ℕ × ℕ × ℕ) → List ℕ → ℕ → List ℕ → ℕ → ℕ × List ℕ
 laid_write extents free pages page k =
     if is_map_write pages k then (laid_block extents free (map_place (k / 512)), laid_map extents free pages (k / 512))

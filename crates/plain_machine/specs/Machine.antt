@@ -12,9 +12,9 @@ use Rattle.definitions.specs.FileMaps.{IsFileMap}
 use Rattle.definitions.specs.Tables.{saveable_frames, free_frames}
 use Rattle.definitions.specs.declared.info.Ident.{Ident}
 
--- What a machine has and keeps: zones (start, count), the number of slots (last_page + 1), the first page frames of the
--- frame table and of the slot table, regions (start, count, flags), its identity and hardware signature (0 where there
--- is none), and the extents of its swap area (start page, length, start block).
+-- A machine's hardware: zones (start, count), the number of slots (last_page + 1), the first page frames of the frame
+-- table and of the slot table, regions (start, count, flags), its identity and hardware signature (0 if there is none),
+-- and the extents of its swap area (start page, length, start block).
 pub record Hardware : Type 0 where
   pub zones : List (ℕ × ℕ)
   pub slots : ℕ
@@ -25,7 +25,7 @@ pub record Hardware : Type 0 where
   pub hw_sig : ℕ
   pub extents : List (ℕ × ℕ × ℕ)
 
--- The content of each page frame, by its number. What a free page frame holds is no part of a memory (`IsSameMemory`).
+-- The content of each page frame, by its number. What a free page frame holds doesn't count (`IsSameMemory`).
 abbrev pub Memory : Type 0
 Memory = List (List ℕ)
 
@@ -41,7 +41,7 @@ valid_count h = length (numbers h.zones)
 abbrev pub is_valid : Hardware → ℕ → Bool
 is_valid h p = list_any (λ q. q == p) (numbers h.zones)
 
--- the entry of page frame p in the frame table, and of slot s in the slot table as it stands
+-- the entry of page frame p in the frame table, and of slot s in the slot table as it is stored
 abbrev pub frame_entry : Hardware → Memory → ℕ → ℕ
 frame_entry h m p = entry_at m h.frame_table p
 
@@ -55,7 +55,7 @@ image_slot = 65536
 abbrev pub bad_slot : ℕ
 bad_slot = 131072
 
--- the entry of slot s as it is seen: a slot of the image counts as free
+-- the entry of slot s, with a slot of the image counted as free
 abbrev pub slot_entry : Hardware → Memory → ℕ → ℕ
 slot_entry h m s = if raw_slot_entry h m s == image_slot then 0 else raw_slot_entry h m s
 
@@ -114,8 +114,8 @@ is_well_formed entry =
 abbrev pub is_slot_entry : ℕ → ℕ → Bool
 is_slot_entry s entry = (entry == bad_slot) || (not (s == 0) && nat_le entry 64)
 
--- whether something is wrong in table frame f: an entry in it, or its own entry, since a table frame is saveable and
--- has no owner
+-- whether table frame f is at fault: an entry in it is wrong, or its own entry is, since a table frame must be saveable
+-- and have no owner
 abbrev pub is_table_at_fault : Hardware → Memory → ℕ → Bool
 is_table_at_fault h m f =
     not (is_saveable (page_flags (frame_entry h m f))) || not (owner_of (frame_entry h m f) == 0)
@@ -136,7 +136,7 @@ pub record Fits (h : Hardware) (m : Memory) : Type 0 where
       × (owner_of (frame_entry h m f) ≡ 0)
   pub slots : (s : ℕ) → s < h.slots → is_slot_entry s (raw_slot_entry h m s) ≡ true
 
--- an identity that an info page can say: names of 65 bytes, and a version code of 4 (struct new_utsname)
+-- an identity that an info page can hold: six names of 65 bytes, and a version code of 4 bytes (struct new_utsname)
 pub record IsIdent (ident : Ident) : Type 0 where
   pub version_code : ident.version_code < 2 ^ 32
   pub names : length ident.names ≡ 6
@@ -155,8 +155,8 @@ pub record IsRegion (h : Hardware) (r : ℕ × ℕ × ℕ) : Type 0 where
   pub valid : (p : ℕ) → IsInRegion r p → Contains (numbers h.zones) p
   pub of_no_table : (p : ℕ) → IsInRegion r p → IsTableFrame h p → ⊥
 
--- Valid hardware: the page frames of the tables are valid and no page frame is in both, the regions are at most 64 and
--- apart, the extents of the swap area cover exactly its slots, and identity and signature fit their fields.
+-- Valid hardware: the page frames of the tables are valid and no page frame is in both, there are at most 64 regions
+-- and none overlap, the extents of the swap area cover exactly its slots, and identity and signature fit their fields.
 pub record IsHardware (h : Hardware) : Type 0 where
   pub zones : AreZones h.zones
   pub some_slots : 2 ≤ h.slots

@@ -6,12 +6,12 @@ use Rattle.page_core.specs.declared.format.Format.TheVariants.{Plain, SkipZeros}
 use Rattle.definitions.specs.SwapHeader.{image_of, flags_of, hw_sig_of, marked_flags}
 use Rattle.plain_machine.specs.Machine.{Hardware}
 
--- the flags that a mark is made with: SF_NOCOMPRESS_MODE, and with SkipZeros 256
+-- the flags of a new mark: SF_NOCOMPRESS_MODE, and with SkipZeros also 256
 abbrev pub mark_flags : Format → ℕ
 mark_flags Plain = 2
 mark_flags SkipZeros = 258
 
--- A header block that marks an image of this format, whose first map is block `first`. It has no other flags than the
+-- A header block that marks an image of this format, whose first map is block `first`. Its flags are exactly the
 -- format's and, if the machine has a signature, SF_HW_SIG; the signature is then in its field.
 pub record HasMark (h : Hardware) (format : Format) (first : ℕ) (header : List ℕ) : Type 0 where
   pub first_map : image_of header ≡ first

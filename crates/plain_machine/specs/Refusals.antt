@@ -1,6 +1,6 @@
--- Which events are refused, and why: the first of each event's tests, in the order in which they stand here. A refused
--- event changes nothing. In Linux: freeze_processes, kernel/power/process.c; enough_free_mem, kernel/power/snapshot.c;
--- enough_swap, kernel/power/swap.c. The order is own.
+-- Which events are refused, and why: the first of an event's tests that refuses it, in the order in which they stand
+-- here. A refused event changes nothing. In Linux: freeze_processes, kernel/power/process.c; enough_free_mem,
+-- kernel/power/snapshot.c; enough_swap, kernel/power/swap.c. The order is this project's.
 use Rattle.std.specs.Prelude.{ℕ, ◌+◌, ◌==◌, ◌&&◌, Bool, true, false, not, nat_lt, length, Option, Some, None}
 use Rattle.std.specs.Prelude.{if◌then◌else◌, is_none, is_some}
 use Rattle.std.specs.List.{range_with_len, find}
@@ -35,7 +35,7 @@ is_held nothing = false
 is_held (sure x) = true
 is_held (maybe x) = true
 
--- the test of a running machine, or why it isn't one
+-- the refusal by a test of the running machine, or why the machine doesn't run
 abbrev pub refusal_if_running : State → (Running → Option Reply) → Option Reply
 refusal_if_running (off held kept) test = Some reply.NotOn
 refusal_if_running (on a) test = test a
@@ -47,7 +47,7 @@ refusal_if_running (waking i held a k) test = Some reply.Frozen
 refusal_if_running (loading load k) test = Some reply.Frozen
 refusal_if_running (asleep i held a) test = Some reply.Sleeping
 
--- Boot and Resume: the machine is off, and the dump's memory, where it is asked for, is kept.
+-- Boot and Resume need a machine that is off and, if they ask for a dump's memory, one that is kept.
 abbrev pub no_dump : Bool → Option Memory → Option Reply
 no_dump asks kept = refused_if (asks && is_none kept) reply.NoDump
 
@@ -88,13 +88,13 @@ abbrev pub no_swap : Option NoSwap → Option Reply
 no_swap None = None
 no_swap (Some why) = Some (reply.NoSwap why)
 
--- enough_free_mem: the copies and PAGES_FOR_IO
+-- enough_free_mem: page frames for the copies, and PAGES_FOR_IO
 abbrev pub no_frames : Hardware → Running → Image → Option Reply
 no_frames h a i =
     refused_if (nat_lt (length (unused h a.memory)) (n_of i + 1025))
     (reply.NoFrames (length (unused h a.memory)) (n_of i + 1025))
 
--- enough_swap: the stream after a block for the first map
+-- enough_swap: slots for the stream, after the first map has taken one, and PAGES_FOR_IO
 abbrev pub no_slots : Hardware → Running → Image → Option Reply
 no_slots h a i =
     refused_if (nat_lt (length (unused_slots h a.memory)) (pages_of i + 1026))
@@ -105,7 +105,7 @@ hibernate_refusal h f a =
     let i = image_of_memory h a.memory a.slots f in
     or_else (busy a) (or_else (closed a) (or_else (no_swap a.unusable) (or_else (no_frames h a i) (no_slots h a i))))
 
--- what a task asks for
+-- the tests of a task's request
 abbrev pub not_owner : Hardware → Running → ℕ → ℕ → Option Reply
 not_owner h a t p = refused_if (not (owner_of (frame_entry h a.memory p) == t)) reply.NotOwner
 
@@ -135,7 +135,7 @@ op_refusal h a t (op.TakeIn s p) =
 abbrev pub task_refusal : Hardware → ℕ → TaskOp → Running → Option Reply
 task_refusal h t o a = or_else (refused_if (is_some (a.flights t)) reply.InFlight) (op_refusal h a t o)
 
--- a step of an actor that has nothing to do
+-- whether the actor has a step to make
 abbrev pub has_step : State → Actor → Bool
 has_step (off held kept) x = false
 has_step (on a) actor.Core = false

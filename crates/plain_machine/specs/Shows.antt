@@ -1,4 +1,4 @@
--- What a world shows of itself, and which running state that is. Nothing here speaks of a disk.
+-- What a world shows of itself, and which running state it shows. Nothing here speaks of a disk.
 -- It has no counterpart in Linux.
 use Rattle.std.specs.Prelude.{◌≡◌, ℕ, Bool, true, false, List, Option, Some, None, ⊤}
 use Rattle.definitions.specs.Tables.{with_entries}
@@ -14,8 +14,8 @@ use Rattle.plain_machine.specs.declared.held.Held.{Held as HeldFlag}
 use Rattle.plain_machine.specs.declared.held.Held.TheVariants.{No, Yes, Perhaps}
 use Rattle.plain_machine.specs.declared.no_swap.NoSwap.{NoSwap}
 
--- What a world is at, and how many steps of it it has made. A boot says what memory it is from, a hibernation whether
--- it is of a suspend, an undo the call that failed.
+-- What a world is doing, and how many steps of that it has made. A boot says which memory it starts from, a hibernation
+-- whether it is part of a suspend, an undo which call failed.
 pub data Activity : Type 0 where
   rests : Activity
   runs : Activity
@@ -38,10 +38,10 @@ activity_in (waking i held a k) = wakes k
 activity_in (loading load k) = loads k
 activity_in (asleep i held a) = sleeps
 
--- What a world shows: what it is at, whether it keeps a dump's memory, whether it holds an image, why its area can't be
--- used, the tasks' unfinished operations, the content of its page frames, the block that it keeps between two calls of
--- the disk, the page frames of its copies, and of a resume that is under way loader and check and the pages that it has
--- read, by page frame.
+-- What a world shows: what it is doing, whether it keeps a dump's memory, whether it holds an image, why its area can't
+-- be used, the tasks' unfinished operations, the content of its page frames, the block that it keeps between two calls
+-- of the disk, the page frames of its copies and, while a resume is under way, its loader, its check and the pages that
+-- it has read, by page frame.
 pub record WorldView : Type 0 where
   pub activity : Activity
   pub keeps_dump : Bool
@@ -54,7 +54,7 @@ pub record WorldView : Type 0 where
   pub resume : Option (Loader × IdentCheck)
   pub loaded : List (ℕ × List ℕ)
 
--- no, yes or perhaps: what is held
+-- the flag (no, yes or perhaps) agrees with what is held
 abbrev pub ShowsHeld : HeldFlag → Held → Type 0
 ShowsHeld No nothing = ⊤
 ShowsHeld No (sure x) = ⊥
@@ -66,12 +66,12 @@ ShowsHeld Perhaps nothing = ⊥
 ShowsHeld Perhaps (sure x) = ⊥
 ShowsHeld Perhaps (maybe x) = ⊤
 
--- the page frames with the image's slots given back
+-- the page frames with the image's slots freed in the slot table
 abbrev pub seen_frames : Hardware → Memory → Memory
 seen_frames h frames = with_entries frames h.slot_table (image_slots h.slots h.slot_table frames) 0
 
 -- A machine with this flag, reason, operations and page frames runs as the state says. The page frames, with the
--- image's slots given back, are the state's memory, which fits.
+-- image's slots freed, are the state's memory, which fits.
 pub record RunsAs (h : Hardware) (flag : HeldFlag) (why : Option NoSwap) (operations : ℕ →
     Option Flight) (frames : Memory) (a : Running) : Type 0 where
   pub held : ShowsHeld flag a.held
@@ -80,11 +80,11 @@ pub record RunsAs (h : Hardware) (flag : HeldFlag) (why : Option NoSwap) (operat
   pub same : IsSameMemory h a.memory (seen_frames h frames)
   pub fits : Fits h a.memory
 
--- a world whose running state, from before an operation or now, is this one
+-- the running state that a world shows, its own or the one from before its operation, is this one
 abbrev pub ShowsRunning : Hardware → WorldView → Running → Type 0
 ShowsRunning h shown a = RunsAs h shown.held shown.unusable shown.flights shown.frames a
 
--- A world that is off shows whether it keeps a dump's memory, and exactly that memory: a loader's free page frames too.
+-- A world that is off shows whether it keeps a dump's memory, and exactly that memory, free page frames included.
 abbrev pub ShowsKept : Hardware → WorldView → Option Memory → Type 0
 ShowsKept h shown None = shown.keeps_dump ≡ false
 ShowsKept h shown (Some m) = (shown.keeps_dump ≡ true) × (shown.frames ≡ m) × Fits h m

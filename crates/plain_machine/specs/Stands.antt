@@ -41,7 +41,7 @@ EachImage c P = (v : disk.DiskImage) → disk.IsImage c v → P v
 
 -- 1. Held.
 
--- slot s is a task's by the table
+-- the table gives slot s to a task
 abbrev pub IsTaskSlot : Hardware → Memory → ℕ → Type 0
 IsTaskSlot h m s = (s < h.slots) × (1 ≤ slot_entry h m s) × (slot_entry h m s ≤ 64)
 
@@ -50,7 +50,7 @@ abbrev pub IsTarget : (ℕ → Option Flight) → ℕ → Type 0
 IsTarget flights s = (t : ℕ) × (p : ℕ) × (flights t ≡ Some (goes_out s p))
 
 -- The slots that have a page are exactly those that the table gives to tasks, except the targets of unfinished outs. In
--- an area that can't be used, for this reason, every slot counts as bad, and none has a page.
+-- an area that can't be used, for the reason `why`, every slot counts as bad, and none has a page.
 pub record AreTaskSlots (h : Hardware) (why : Option NoSwap) (m : Memory) (flights : ℕ →
     Option Flight) (slots : SlotPages) : Type 0 where
   pub usable : (s : ℕ) (page : List ℕ) → slots s ≡ Some page → why ≡ None
@@ -67,7 +67,7 @@ pub record IsFlight (h : Hardware) (a : Running) (t s p : ℕ) : Type 0 where
   pub valid : is_valid h p ≡ true
   pub owner : owner_of (frame_entry h a.memory p) ≡ t
 
--- An out begins where no image is held, and none is made before it ends.
+-- An out begins only while no image is held, and no image is made before it ends.
 pub record HasFlights (h : Hardware) (a : Running) : Type 0 where
   pub outs : (t s p : ℕ) → a.flights t ≡ Some (goes_out s p) → IsFlight h a t s p
   pub unheld : (t s p : ℕ) → a.flights t ≡ Some (goes_out s p) → a.held ≡ nothing
@@ -107,15 +107,15 @@ abbrev pub NamesOnly : Hardware → WorldView → List ℕ → Type 0
 NamesOnly h shown blocks =
     (s : ℕ) → s < h.slots → raw_slot_entry h shown.frames s ≡ image_slot → Contains blocks (block_of_slot h s)
 
--- the blocks that an image is laid on: those of the slots that were free in the memory that it was made of
+-- the blocks that an image is laid on: those of the slots that were free in the memory that it was made from
 abbrev pub blocks_laid : Hardware → Memory → Image → List ℕ
 blocks_laid h m i = map (λ written. written.0) (laid h.extents (unused_slots h m) (stream_of i))
 
 abbrev pub laid_blocks : Hardware → Running → Image → List ℕ
 laid_blocks h a i = blocks_laid h a.memory i
 
--- The slots that are named as an image's: those of the held one lie on its blocks, also where it is only perhaps there.
--- Of another's image no slot is named so.
+-- The slots that the table gives to an image: they lie on the blocks of the held image, even if that is only perhaps on
+-- the disk. If no image is held, or one that the machine didn't make, the table gives it no slot.
 pub record NamesOwn (h : Hardware) (shown : WorldView) (i : Image) : Type 0 where
   pub memory : Memory
   pub image : i ≡ image_of_memory h memory i.slots i.format
@@ -130,7 +130,7 @@ NamesHeld h shown nothing = NamesOnly h shown []
 NamesHeld h shown (sure x) = NamesSaved h shown x
 NamesHeld h shown (maybe x) = NamesSaved h shown x
 
--- 3. Header: taken back where it is marked, block(0) is one block in every image, but for bytes 4056 to 4085.
+-- 3. Header: block(0), taken back if it is marked, is the same in every image, except for bytes 4056 to 4085.
 pub record AgreeOnArea (a b : List ℕ) : Type 0 where
   pub front : take 4056 a ≡ take 4056 b
   pub signature : bytes_at 10 a 4086 ≡ bytes_at 10 b 4086
@@ -139,8 +139,8 @@ pub record IsHeader (h : Hardware) (c : disk.Content) : Type 0 where
   pub unmarked : EachImage c (λ v. IsMarked (area_block h v) → ⊥)
   pub one : EachImage c (λ v. AgreeOnArea (area_block h v) (area_block h (disk.as_it_reads c)))
 
--- A running machine's area is that block's: why it can't be used is what the block calls for, and where it can be used
--- its bad slots are the table's.
+-- A running machine's area is that block's: it can't be used for exactly the reason that the block gives, and if it can
+-- be used its bad slots are the table's.
 abbrev pub HasArea : Hardware → disk.Content → Running → Type 0
 HasArea h c a = a.unusable ≡ dump_area_fault h (disk.as_it_reads c) a.memory
 
@@ -155,27 +155,27 @@ pub record IsAccepted (h : Hardware) (a : Running) (i : Image) : Type 0 where
   pub usable : a.unusable ≡ None
   pub room : pages_of i + maps_of (pages_of i) ≤ length (unused_slots h a.memory)
 
--- what the hibernation writes but for the mark, in the order of its steps
+-- what the hibernation writes, except the mark, in the order of its steps
 abbrev pub laid_writes : Hardware → Running → Image → List (ℕ × List ℕ)
 laid_writes h a i = laid h.extents (unused_slots h a.memory) (stream_of i)
 
--- the block of the least slot that is free, in which the first map lies
+-- the block of the lowest free slot, where the first map lies
 abbrev pub first_map_block : Hardware → Running → ℕ
 first_map_block h a = laid_block h.extents (unused_slots h a.memory) 0
 
 abbrev pub Reads : disk.DiskImage → ℕ × List ℕ → Type 0
 Reads v written = disk.block v written.0 ≡ written.1
 
--- Every image of the disk has the blocks of the hibernation and the tasks' slots. One that is marked says that the
--- chain that was laid is the image: its first map lies in the least slot that was free.
+-- Every image of the disk has the blocks of the hibernation and the pages of the tasks' slots. If it is marked, the
+-- mark names the chain that was laid: its first map lies in the slot that was the lowest free one.
 pub record HasLaid (h : Hardware) (c : disk.Content) (i : Image) (a : Running) : Type 0 where
   pub blocks : EachImage c (λ v. All (Reads v) (laid_writes h a i))
   pub slots : (s : ℕ) (page : List ℕ) → i.slots s ≡ Some page →
       EachImage c (λ v. disk.block v (block_of_slot h s) ≡ page)
   pub mark : EachImage c (λ v. Marked h v → HasMark h i.format (first_map_block h a) (header_of h v))
 
--- The blocks of the first k writes read as laid, and the copies are the image's pages. After the first sync this holds
--- of every image of the disk.
+-- The blocks of the first k writes read as laid, and the copies are the image's pages. After the first sync every image
+-- of the disk has all the blocks.
 pub record IsWritten (h : Hardware) (shown : WorldView) (c : disk.Content) (i : Image) (a : Running)
     (k : ℕ) : Type 0 where
   pub laid : All (Reads (disk.as_it_reads c)) (take k (laid_writes h a i))
@@ -184,21 +184,21 @@ pub record IsWritten (h : Hardware) (shown : WorldView) (c : disk.Content) (i : 
 
 -- 5. Loading.
 
--- w is the disk v, but for block(0), which is as it was or taken back
+-- w is the disk v, except for block(0), which is as it was or taken back
 pub record IsSameOrTakenBack (h : Hardware) (v w : disk.DiskImage) : Type 0 where
   pub size : length w ≡ length v
   pub others : (b : ℕ) → b < blocks_of v → b ≢ block_of_slot h 0 → disk.block w b ≡ disk.block v b
   pub header : (header_of h w ≡ header_of h v) ⊎ (header_of h w ≡ taken_back (header_of h v))
 
--- how many pages with data are read after k steps: after the four steps at block(0) each 512th step, from the first
--- on, reads a map, and the info page and the number pages come first
+-- how many pages of the stream are read after k steps: after the four steps at block(0) every 512th step, beginning
+-- with the first, reads a map; and how many of them are data pages, which follow the info page and the number pages
 abbrev pub pages_read : ℕ → ℕ
 pages_read k = k - 4 - (k - 4 + 511) / 512
 
 abbrev pub data_read : Image → ℕ → ℕ
 data_read i k = pages_read k - (meta_of (n_of i) + 1)
 
--- the number of data pages of another machine's image on the disk v
+-- how many data pages of another machine's image on the disk v are read after k steps
 abbrev pub data_read_in : Hardware → disk.DiskImage → ℕ → ℕ
 data_read_in h v k = pages_read k - (meta_in h v + 1)
 
@@ -221,8 +221,8 @@ IsFound not_yet = ⊥
 IsFound (found_own i) = ⊤
 IsFound (found_other v) = ⊤
 
--- From the second step on it is known which image is read. Every image of the disk is the one that this step found, but
--- for block(0). From the fourth on none is marked.
+-- After the second step it is known which image is read, and every image of the disk is the one that this step found,
+-- except for block(0). After the fourth step none is marked.
 pub record IsLoading (h : Hardware) (shown : WorldView) (c : disk.Content) (load : Load) (k : ℕ) : Type 0 where
   pub shows : ShowsResume h shown load k
   pub fits : FitsLoader h load
@@ -246,7 +246,7 @@ pub record KeepsMark (h : Hardware) (shown : WorldView) (c : disk.Content) (i : 
   pub unmarked : IsMarked (taken_back shown.header) → ⊥
   pub area : AgreeOnArea (taken_back shown.header) (area_block h (disk.as_it_reads c))
 
--- What there is before the call that comes next.
+-- What holds before the next call, by that call.
 
 abbrev pub IsBeforeBoot : disk.Content → Option BootCall → Type 0
 IsBeforeBoot c (Some reads_area) = HasOneImage c
@@ -286,7 +286,7 @@ IsBeforeLoad h shown c (of_mark takes_back) = IsBeforeMark h shown c
 IsBeforeLoad h shown c (of_mark syncs_back) = ReadsUnmarked h c
 IsBeforeLoad h shown c call = ⊤
 
--- 7. Asleep and waking: the image is the held one, and that of the memory that is kept.
+-- 7. Asleep and waking: the image is the one that is held, and the one made of the memory that is kept.
 pub record IsSaved (h : Hardware) (i : Image) (held : Held) (a : Running) : Type 0 where
   pub image : i ≡ image_of_memory h a.memory a.slots i.format
   pub is_held : (held ≡ sure (own i)) ⊎ (held ≡ maybe (own i))
@@ -299,7 +299,7 @@ pub record StandsOff (h : Hardware) (shown : WorldView) (c : disk.Content) (imag
   pub held : IsHeld h c image
   pub header : IsHeader h c
 
--- the disk of a running state
+-- what a running state says of the disk
 pub record StandsOn (h : Hardware) (shown : WorldView) (c : disk.Content) (a : Running) : Type 0 where
   pub held : IsHeld h c a.held
   pub task_slots : AreTaskSlots h a.unusable a.memory a.flights a.slots
@@ -313,7 +313,7 @@ pub record StandsRunning (h : Hardware) (shown : WorldView) (c : disk.Content) (
   pub memory : ShowsRunning h shown a
   pub disk : StandsOn h shown c a
 
--- an operation, after which a running state waits, and where this image is held
+-- an operation during which the running state `a` waits and `image` is held
 pub record StandsBehind (h : Hardware) (shown : WorldView) (c : disk.Content) (a : Running)
     (image : Held) : Type 0 where
   pub memory : ShowsRunning h shown a
@@ -324,7 +324,7 @@ pub record StandsBehind (h : Hardware) (shown : WorldView) (c : disk.Content) (a
   pub header : IsHeader h c
   pub area : HasArea h c a
 
--- a boot from fresh memory has its page frames from the begin on; one from a dump's memory has that
+-- a boot from fresh memory has fresh page frames from its start; a boot from a dump's memory has that memory
 abbrev pub ShowsBoot : Hardware → WorldView → BootFrom → Memory → Type 0
 ShowsBoot h shown Fresh dump = shown.frames ≡ fresh_frames h
 ShowsBoot h shown Kept dump = (shown.frames ≡ dump) × Fits h dump
@@ -387,8 +387,8 @@ HasParts h shown c (waking i held a k) = StandsWaking h shown c i held a k
 HasParts h shown c (loading load k) = StandsLoading h shown c load k
 HasParts h shown c (asleep i held a) = StandsAsleep h shown c i held a
 
--- A world that shows this and a disk with this content stand for a state: it shows what the state is at, and its parts
--- hold.
+-- A world that shows `shown` and a disk with the content `c` stand for the state `a`: the world is doing what the state
+-- says, and the state's parts hold.
 pub record Stands (h : Hardware) (shown : WorldView) (c : disk.Content) (a : State) : Type 0 where
   pub activity : shown.activity ≡ activity_in a
   pub parts : HasParts h shown c a

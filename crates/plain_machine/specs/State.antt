@@ -1,5 +1,5 @@
 -- The states of the plain machine. It has no bitmap, copy frame, map page, safe frame or write order.
--- In Linux what passes between them is hibernate and software_resume, kernel/power/hibernate.c.
+-- In Linux: hibernate and software_resume, kernel/power/hibernate.c, which pass through them.
 use Rattle.std.specs.Prelude.{ℕ, Bool, Option, Some, None}
 use Rattle.definitions.specs.Disk as disk
 use Rattle.plain_machine.specs.Machine.{Memory}
@@ -23,7 +23,7 @@ pub data Saved : Type 0 where
   own : Image → Saved
   other : Saved
 
--- Whether an image is on the disk: none, surely this one, or perhaps.
+-- Whether an image is on the disk: none, certainly this one, or perhaps this one.
 pub data Held : Type 0 where
   nothing : Held
   sure : Saved → Held
@@ -34,7 +34,7 @@ perhaps nothing = nothing
 perhaps (sure x) = maybe x
 perhaps (maybe x) = maybe x
 
--- A machine that runs: its memory, the pages in the tasks' slots (but the targets of unfinished outs), the tasks'
+-- A machine that runs: its memory, the pages in the tasks' slots (except the targets of unfinished outs), the tasks'
 -- unfinished operations, why its area can't be used, and whether an image is held.
 pub record Running : Type 0 where
   pub memory : Memory
@@ -43,8 +43,8 @@ pub record Running : Type 0 where
   pub unusable : Option NoSwap
   pub held : Held
 
--- A resume under way: what the disk held at its begin, the image that its second step found (another's as the disk v
--- that the step read), the loader with the dump's memory, and the check.
+-- A resume under way: what the disk held when it began, the image that its second step found (for another's image the
+-- disk v that the step read), the loader with the dump's memory, and the check.
 pub data Found : Type 0 where
   not_yet : Found
   found_own : Image → Found
@@ -57,9 +57,9 @@ pub record Load : Type 0 where
   pub dump : Memory
   pub check : IdentCheck
 
--- The states; the number of an operation's state is how many steps it has made. `kept` is a dump's memory, until a boot
--- or a resume is accepted. `hibernating` says whether it is of a suspend, and it, `undoing`, `settling`, `waking` and
--- `asleep` keep the running state from before.
+-- The states. The number in an operation's state counts the steps it has made. `off` keeps a dump's memory until a boot
+-- or a resume is accepted. `hibernating` says whether it is part of a suspend. `hibernating`, `undoing`, `settling`,
+-- `waking` and `asleep` keep the running state from before.
 pub data State : Type 0 where
   off : Held → Option Memory → State
   on : Running → State
@@ -87,7 +87,7 @@ held_loading load reads_image = nothing
 abbrev pub held_while_loading : Load → ℕ → Held
 held_while_loading load k = held_loading load (load_call k)
 
--- before a call of a hibernation: its image is perhaps there from the write of the mark on
+-- what is on the disk before a call of a hibernation: from the write of the mark on, perhaps its image
 abbrev pub held_hibernating : Image → Option HibernationCall → Held
 held_hibernating i (Some writes_page) = nothing
 held_hibernating i (Some syncs_pages) = nothing
@@ -96,7 +96,7 @@ held_hibernating i (Some writes_mark) = nothing
 held_hibernating i (Some syncs_mark) = maybe (own i)
 held_hibernating i None = maybe (own i)
 
--- and before one that takes what is held back
+-- what is on the disk before a call that takes the mark of the held image back
 abbrev pub held_back : Held → Option BackCall → Held
 held_back held (Some reads_mark) = held
 held_back held (Some takes_back) = held

@@ -76,7 +76,7 @@ with_flight flights t flight = λ u. if u == t then flight else flights u
 abbrev pub with_slot : SlotPages → ℕ → Option (List ℕ) → SlotPages
 with_slot slots s page = λ q. if q == s then page else slots q
 
--- what a task's request makes of a running machine that doesn't refuse it
+-- the outcome of a task's request to a running machine that doesn't refuse it
 abbrev pub requested : Hardware → Running → ℕ → TaskOp → List Outcome
 requested h a t (op.Claim p) =
     only reply.Done (on (record a { memory = with_frame_entry h (with_frame a.memory p zero_page) p (owned_by t) }))
@@ -142,7 +142,7 @@ booted h v Kept dump held = record {
   held = held;
 }
 
--- whether an image is there: what is held says it, and a perhaps is settled by the disk
+-- The reply says whether an image is on the disk, by what is held; if that is a perhaps, the disk decides.
 abbrev pub boot_outcomes : Hardware → disk.DiskImage → BootFrom → Memory → Held → List Outcome
 boot_outcomes h v from dump nothing = only (reply.Booted false) (on (booted h v from dump nothing))
 boot_outcomes h v from dump (sure x) = only (reply.Booted true) (on (booted h v from dump (sure x)))
@@ -163,11 +163,11 @@ abbrev pub hibernated : Bool → Image → Running → Outcome
 hibernated false i a = (reply.Hibernated (n_of i), off (sure (own i)) None)
 hibernated true i a = (reply.Asleep (n_of i), asleep i (sure (own i)) a)
 
--- step k + 1, and its reply where more follow
+-- step k + 1 was made, and more steps follow
 abbrev pub hibernates_on : Bool → Image → Running → ℕ → Outcome
 hibernates_on suspends i a k = (reply.More (k + 1) (hibernate_steps i), hibernating suspends i a (k + 1))
 
--- by the call that it makes
+-- the outcomes of step k + 1, by the call that it makes
 abbrev pub hibernation_outcomes : Bool → Image → Running → ℕ → Option HibernationCall → List Outcome
 hibernation_outcomes suspends i a k None = []
 hibernation_outcomes suspends i a k (Some writes_page) =
@@ -231,7 +231,7 @@ resumed m slots (loader.Ranges ranges) =
     on (record { memory = m; slots = slots; flights = no_flights; unusable = None; held = nothing })
 resumed m slots loader.Table = off nothing None
 
--- the fault of a call of a resume
+-- the outcome of a resume's step if its call fails
 abbrev pub fault_of_load : Load → LoadCall → Outcome
 fault_of_load load syncs_first = (reply.SyncFault Same, off load.held None)
 fault_of_load load (of_mark reads_mark) = (reply.ReadFault Same, off load.held None)
@@ -307,7 +307,8 @@ abbrev pub load_step : Hardware → disk.DiskImage → Load → ℕ → List Out
 load_step h v load k =
     if nat_lt k 4 || has_place h load load.found k then load_fault load k ∷ load_answers h v load k else []
 
--- Shrinking: [drop]. Page frames with the one flag CACHE, from the lowest, until `want` saveable ones are left.
+-- Shrinking: [drop]. Page frames whose only flag is CACHE are dropped, from the lowest on, until `want` saveable ones
+-- are left.
 abbrev pub droppable : Hardware → Memory → List ℕ
 droppable h m = filter (λ p. (frame_flags p == 64) && not (is_table_frame h p)) (numbers h.zones) where
   frame_flags : ℕ → ℕ
@@ -319,7 +320,7 @@ dropped_by h m want = take (length (saveable h m) - want) (droppable h m)
 abbrev pub drop_memory : Hardware → Memory → ℕ → Memory
 drop_memory h m want = with_entries m h.frame_table (dropped_by h m want) 1
 
--- What may come of each event that isn't refused.
+-- The outcomes of each event that isn't refused.
 
 abbrev pub core_step : Hardware → disk.DiskImage → State → List Outcome
 core_step h v (off held kept) = []
@@ -332,7 +333,7 @@ core_step h v (waking i held a k) = wake_step i held a k
 core_step h v (loading load k) = load_step h v load k
 core_step h v (asleep i held a) = []
 
--- of a running machine
+-- the outcomes given by f if the machine runs
 abbrev pub if_running : State → (Running → List Outcome) → List Outcome
 if_running (on a) f = f a
 if_running (off held kept) f = []

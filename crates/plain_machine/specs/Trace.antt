@@ -1,4 +1,4 @@
--- [trace]: the replies of a resume without device faults, over any disk. It reads a whole disk by place.
+-- [trace]: the replies of a resume without device faults, over any disk. The trace reads the whole disk place by place.
 -- In Linux: swsusp_check and swsusp_read, kernel/power/swap.c; load_header, check_header, unpack_orig_pfns and
 -- snapshot_write_next, kernel/power/snapshot.c.
 use Rattle.std.specs.Prelude.{ℕ, ◌+◌, ◌*◌, ◌/◌, ◌%◌, ◌-◌, ◌==◌, ◌&&◌, ◌||◌, List, [], ◌∷◌, Bool, false, not, nat_lt}
@@ -28,7 +28,7 @@ use Rattle.plain_machine.specs.declared.event.IdentCheck.TheVariants.{Compare, S
 use Rattle.plain_machine.specs.declared.reply.Reply.{Reply}
 use Rattle.plain_machine.specs.declared.reply.Reply.TheVariants as reply
 
--- a number's bit
+-- whether a bit of the flags is set
 abbrev pub is_set : ℕ → ℕ → Bool
 is_set flags bit = not (bit_and flags bit == 0)
 
@@ -131,7 +131,7 @@ counts_cause h v =
 abbrev pub info_cause : Hardware → disk.DiskImage → IdentCheck → Option Reply
 info_cause h v check = or_else (identity_cause h v check) (or_else (memory_cause h v) (counts_cause h v))
 
--- number j: not a valid page frame, or not above the one before
+-- number j isn't a valid page frame, or isn't above the one before
 abbrev pub number_cause : Hardware → disk.DiskImage → ℕ → Option Reply
 number_cause h v j =
     if not (is_valid h (number_in h v j)) then Some (reply.BadPfn (number_in h v j))
@@ -139,54 +139,54 @@ number_cause h v j =
     then Some (reply.PfnOrder (number_in h v (j - 1)) (number_in h v j))
     else None)
 
--- the word after the last number, where the last page isn't full
+-- if the last number page isn't full, the word after the last number isn't the end value
 abbrev pub end_cause : Hardware → disk.DiskImage → ℕ → Option Reply
 end_cause h v n =
     if (n % 512 == 0) || (number_word h v n == end_value) then None else Some (reply.PfnEnd (number_word h v n))
 
--- After the last number page: the data pages are as many as pages says. (In a Plain image the info page's test says
--- so.)
+-- After the last number page: the info page's count of pages doesn't agree with the number of data pages. (In a Plain
+-- image the test of the info page rules this out.)
 abbrev pub listed_cause : Hardware → disk.DiskImage → Option Reply
 listed_cause h v =
     if (info_in h v).pages == d_in h v + meta_in h v + 1 then None
     else Some (reply.BadCounts (info_in h v).image_pages (info_in h v).pages)
 
--- and the loader has room for them
+-- or the loader has no room for them
 abbrev pub room_cause : Hardware → Memory → disk.DiskImage → Loader → Option Reply
 room_cause h dump v loader =
     if nat_lt (length (left_free h dump loader)) (need (d_in h v))
     then Some (reply.TooFewLoaderFrames (length (left_free h dump loader)) (need (d_in h v)))
     else None
 
--- number page q, from 0, of n numbers
+-- what is wrong with number page q, from 0
 abbrev pub numbers_cause : Hardware → disk.DiskImage → ℕ → Option Reply
 numbers_cause h v q =
     let n = (info_in h v).image_pages in
     let own = first_some (map (number_cause h v) (range_with_len (512 * q) (min 512 (n - 512 * q)))) in
     if q + 1 == meta_of n then or_else own (or_else (end_cause h v n) (listed_cause h v)) else own
 
--- What is read, in order: before each 511 pages of the stream their map, and the pages.
+-- What is read, in order: before every 511 pages of the stream their map, and the pages.
 pub data Place : Type 0 where
   map_at : ℕ → Place
   page_at : ℕ → Place
 
--- place number t, from 0: each 512th one, from the first on, is a map
+-- place number t, from 0: every 512th one, beginning with the first, is a map
 abbrev pub place : ℕ → Place
 place t = if t % 512 == 0 then map_at (t / 512) else page_at (t - t / 512 - 1)
 
--- the number of places of a stream of p pages; the info page is read before its counts are known
+-- the number of places of a stream of `pages` pages; the info page is read before its counts are known
 abbrev pub place_count : ℕ → ℕ
 place_count pages = maps_read (max pages 1) + max pages 1
 
 abbrev pub places : ℕ → List Place
 places pages = map place (range_with_len 0 (place_count pages))
 
--- what is wrong with the block of a place, when it is wanted
+-- what is wrong with the block of a place when it is to be read
 abbrev pub place_cause : Hardware → disk.DiskImage → Place → Option Reply
 place_cause h v (map_at j) = map_fault h v (first_map h v) j
 place_cause h v (page_at k) = entry_fault h v (first_map h v) k
 
--- what is wrong with what was read there, but for the loader's room
+-- what is wrong with what was read at a place, except for the loader's room
 abbrev pub read_cause : Hardware → disk.DiskImage → IdentCheck → Place → Option Reply
 read_cause h v check (map_at j) = None
 read_cause h v check (page_at zero) = info_cause h v check
@@ -197,12 +197,12 @@ abbrev pub want_cause : Hardware → Memory → disk.DiskImage → Loader → Pl
 want_cause h dump v loader (map_at j) = None
 want_cause h dump v loader (page_at k) = if k == meta_in h v then room_cause h dump v loader else None
 
--- what is wrong with the block that is wanted after place t, which is tested at the end of the step that reads place t
+-- what is wrong with the block of the place after t, which is tested at the end of the step that reads place t
 abbrev pub next_cause : Hardware → disk.DiskImage → ℕ → Option Reply
 next_cause h v t = if nat_lt (t + 1) (place_count (info_in h v).pages) then place_cause h v (place (t + 1)) else None
 
 -- The fault at the end of the step that reads place t: that of the page just read; else the loader's lack of room,
--- which a mere reader of blocks doesn't know; else that of the block that is wanted next.
+-- which a mere reader of blocks doesn't know; else that of the block to be read next.
 abbrev pub cause_with : Hardware → disk.DiskImage → IdentCheck → Option Reply → ℕ → Option Reply
 cause_with h v check room t = or_else (read_cause h v check (place t)) (or_else room (next_cause h v t))
 
@@ -215,7 +215,7 @@ slots_in h v m =
     λ s. if nat_lt s h.slots && nat_lt 0 (slot_entry h m s) && nat_le (slot_entry h m s) 64
     then Some (disk.block v (block_of_slot h s)) else None
 
--- At the last step: the restored tables don't fit, or not the area; not tested after a dump's loader.
+-- At the last step: the restored tables don't fit, or don't fit the area. This isn't tested after a dump's loader.
 abbrev pub tables_cause : Hardware → disk.DiskImage → Memory → Option Reply
 tables_cause h v m =
     frame_reply (or_else (tables_fault h m) (if is_none (dump_area_fault h v m) then None else Some h.slot_table)) where
@@ -232,14 +232,14 @@ last_reply h dump v (loaders.Ranges ranges) =
     (reply.Resumed (info_in h v).image_pages)
 last_reply h dump v loaders.Table = reply.Resumed (info_in h v).image_pages
 
--- at the end of step 4, once the block is taken back
+-- what is wrong at the end of step 4, once the mark is taken back
 abbrev pub taken_back_cause : Hardware → disk.DiskImage → Option Reply
 taken_back_cause h v =
     if is_set (flags_of (header_of h v)) 8 && not (hw_sig_of (header_of h v) == h.hw_sig)
     then Some (reply.HwMismatch (hw_sig_of (header_of h v)) h.hw_sig)
     else map_fault h v (first_map h v) 0
 
--- at the end of step 2
+-- what is wrong at the end of step 2
 abbrev pub header_cause : Hardware → disk.DiskImage → Option Reply
 header_cause h v =
     if not (pointwise nat_eq (sig_of (header_of h v)) image_signature) then Some reply.NoImage
@@ -255,7 +255,7 @@ step_cause h dump v loader check (suc (suc zero)) = None
 step_cause h dump v loader check (suc (suc (suc zero))) = taken_back_cause h v
 step_cause h dump v loader check (suc (suc (suc (suc t)))) = cause_at h dump v loader check t
 
--- how many steps there are where nothing is wrong
+-- the number of steps if nothing is wrong
 abbrev pub step_count : Hardware → disk.DiskImage → ℕ
 step_count h v = 4 + place_count (info_in h v).pages
 

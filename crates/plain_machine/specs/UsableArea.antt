@@ -18,22 +18,21 @@ use Rattle.plain_machine.specs.declared.no_swap.NoSwap.TheVariants as no_swap
 use Rattle.sig_header.specs.declared.area.AreaFault.{AreaFault}
 use Rattle.sig_header.specs.declared.area.AreaFault.TheVariants.{Version, BadCount, LastZero, BadEntry}
 
--- Which swap areas can be used.
--- In Linux: read_swap_header, mm/swapfile.c.
+-- Why an area can't be used.
 
--- the reason that a version 1 area's fault is
+-- the reason that a version 1 area with this fault can't be used
 abbrev pub no_swap_at : AreaFault → NoSwap
 no_swap_at (Version v) = no_swap.Version v
 no_swap_at (BadCount n) = no_swap.BadCount n
 no_swap_at LastZero = no_swap.LastZero
 no_swap_at (BadEntry slot) = no_swap.BadEntry slot
 
--- block(0), taken back where it is marked
+-- block(0), taken back if it is marked
 abbrev pub area_block : Hardware → disk.DiskImage → List ℕ
 area_block h v =
     if pointwise nat_eq (sig_of (header_of h v)) image_signature then taken_back (header_of h v) else header_of h v
 
--- why the kind is no version 1 area
+-- why an area of this kind can't be used by any machine
 abbrev pub kind_fault : AreaKind → Option NoSwap
 kind_fault (Image mark) = Some no_swap.Image
 kind_fault Old = Some no_swap.Old
@@ -41,7 +40,8 @@ kind_fault (Other sig) = Some (no_swap.Signature sig)
 kind_fault (BadArea why) = Some (no_swap_at why)
 kind_fault (Swap area) = None
 
--- why the machine can't use a version 1 area: a slot lies on no block of the disk, or the slots are of another number
+-- why the machine can't use a version 1 area: a slot lies on no block of the disk, or the machine has another number of
+-- slots
 abbrev pub fit_fault : Hardware → ℕ → Area → Option NoSwap
 fit_fault h blocks area =
     if list_any (λ s. not (nat_lt (block_of_slot h s) blocks)) (range_with_len 0 (area.last + 1))
@@ -83,7 +83,7 @@ first_fault (Some why) b = Some why
 unfoldable pub dump_area_fault : Hardware → disk.DiskImage → Memory → Option NoSwap
 dump_area_fault h v m = first_fault (area_fault h v) (bad_set_fault h m (area_kind (area_block h v)))
 
--- the area's bad slots, of the area that the disk has
+-- the bad slots of a version 1 area that can be used; for the other kinds none
 abbrev pub bad_slots_in : AreaKind → List ℕ
 bad_slots_in (Swap area) = bad_slots_of area
 bad_slots_in (Image mark) = []
@@ -97,7 +97,7 @@ bad_slots_in (BadArea why) = []
 -- that image. That the disk keeps the rules is the contract of its calls.
 
 -- [sole writer] Nobody else writes the disk: its content before a call is its content after the last one. The program's
--- type ensures this, which holds the disk by an exclusive reference.
+-- type ensures this: it holds the disk by an exclusive reference.
 
 -- [one hardware] One hardware, with its signature, serves the whole script: `Step` and `Run` take it once.
 
@@ -105,7 +105,7 @@ bad_slots_in (BadArea why) = []
 
 -- [memory] The status isn't 6: `Memory` of the program's `Status`.
 
--- [no marked original] No marked block(0) that is handed in has the signature of an image as its original signature:
--- taken back it isn't marked.
+-- [no marked original] A marked block(0) that the program is given doesn't have the signature of an image as its
+-- original signature: taken back, it isn't marked.
 abbrev pub HasOriginal : Hardware → disk.DiskImage → Type 0
 HasOriginal h v = IsMarked (area_block h v) → ⊥

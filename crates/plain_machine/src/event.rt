@@ -5,15 +5,15 @@ use page_core::Format;
 pub enum Event {
     /// The machine is switched on.
     Boot(BootFrom),
-    /// Memory is to be saved, and the machine switched off.
+    /// A hibernation: memory is to be saved, and the machine switched off.
     Hibernate(Format),
-    /// Memory is to be saved, and the machine to sleep with its memory kept.
+    /// A suspend: memory is to be saved, and the machine to sleep with its memory kept.
     Suspend(Format),
     /// A sleeping machine is to go on.
     Wake,
-    /// It is to be made certain that no image is on the disk.
+    /// The machine is to make certain that no image is on the disk.
     Settle,
-    /// Drop cached page frames until the given number of saveable ones are left.
+    /// Cached page frames are to be dropped until the given number of saveable ones are left.
     Shrink(u64),
     /// The machine is switched on, and the image on the disk resumed.
     Resume(Loader, IdentCheck),
@@ -46,7 +46,7 @@ pub enum TaskOp {
     TakeIn(u32, u32),
 }
 
-/// Whose operation makes a step.
+/// The actor whose operation makes a step.
 #[derive(Clone, Copy, Debug, PartialEq, Eq)]
 pub enum Actor {
     Core,

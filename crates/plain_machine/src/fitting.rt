@@ -4,7 +4,7 @@ impl Event {
     ghost use Rattle.std.specs.Prelude.{◌↔◌, IsTrue};
     ghost use Rattle.plain_machine.specs.Fitting.{IsFitting};
 
-    /// Whether the event's numbers are in the ranges of a script's lines.
+    /// Returns whether the event's numbers are in the ranges that a script's lines allow.
     pub fn fits(&self) -> bool
         ensures { IsTrue result ↔ IsFitting self.now }
     {
@@ -23,7 +23,7 @@ impl TaskOp {
     ghost use Rattle.std.specs.Prelude.{◌↔◌, IsTrue};
     ghost use Rattle.plain_machine.specs.Fitting.{IsFittingOp};
 
-    /// Whether the request's numbers are in their ranges.
+    /// Returns whether the request's numbers are in their ranges.
     pub fn fits(&self) -> bool
         ensures { IsTrue result ↔ IsFittingOp self.now }
     {

@@ -1,7 +1,7 @@
 use sig_header::AreaFault;
 use thiserror::Error;
 
-/// Why a swap area can't be used. The tests stand in the order of the variants.
+/// Why a swap area can't be used. The variants are in the order of the tests.
 #[derive(Clone, Copy, Debug, PartialEq, Eq, Error)]
 pub enum NoSwap {
     /// The block carries the signature of an image.
@@ -19,7 +19,7 @@ pub enum NoSwap {
     /// More than 630 bad pages.
     #[error("{count} bad pages")]
     BadCount { count: u32 },
-    /// There is no slot but the header's.
+    /// The area has no slot except the header's.
     #[error("last page 0")]
     LastZero,
     /// The first bad page that is 0 or above the last slot.

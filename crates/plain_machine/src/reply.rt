@@ -8,7 +8,7 @@ pub enum Reply {
     Done,
     /// An operation has made k of its steps.
     More { k: u32, of: u32 },
-    /// The machine runs. Whether an image is on the disk.
+    /// The machine runs. `image` says whether an image is on the disk.
     Booted { image: bool },
     Word { value: u64 },
     /// The slot that a page goes to.
@@ -18,7 +18,7 @@ pub enum Reply {
     Fetched { slot: u32 },
     /// An image of n pages is on the disk, and the machine is off.
     Hibernated { n: u32 },
-    /// The call of the disk that failed, and how many of the two steps to undo it are made.
+    /// The call of the disk that failed, and how many of the two steps that undo it were made.
     Undo { call: UndoCall, k: u32 },
     Settled,
     /// A resume has made k steps.
@@ -65,7 +65,7 @@ pub enum Reply {
     Asleep { n: u32 },
     NotAsleep,
     Woken,
-    /// Page frames that were dropped from the cache, and saveable ones that are left.
+    /// How many page frames were dropped from the cache, and how many saveable ones are left.
     Shrunk { dropped: u32, left: u32 },
 }
 

@@ -40,7 +40,7 @@ picked-split test start p count le lt =
     ∙ ap (filter test) (range-split start (p - start) (count - (p - start)))
     ∙ filter-append test (range_with_len start (p - start)) (range_with_len (start + (p - start)) (count - (p - start)))
 
--- the first `most` are found once so many were picked
+-- the first `most` are found once `most` were picked
 pub take-picked : (test : ℕ → Bool) (start p count most : ℕ) → start ≤ p → p < start + count → most ≤ length (filter test (range_with_len start (p - start))) → take most (filter test (range_with_len start count)) ≡ take most (filter test (range_with_len start (p - start)))
 take-picked test start p count most le lt found =
     ap (take most) (picked-split test start p count le lt)

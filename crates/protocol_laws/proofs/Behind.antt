@@ -20,7 +20,7 @@ use Rattle.protocol_laws.proofs.Marking.{header_is, length-block, image_blocks}
 use Rattle.protocol_laws.proofs.Same.{header_kept, area_kept, by_sync}
 use Rattle.protocol_laws.proofs.Unmarking.{IsUnmarking, Torn, still, back, torn, kind_torn, own_torn, area_page, header_still, area_still, slots_still}
 
--- It waits over the same disk.
+-- The machine waits over the same disk.
 pub waits_on : (h : Hardware) (shown shown' : WorldView) (c : disk.Content) (a : Running) (held : Held) → StandsBehind h shown c a held → ShowsRunning h shown' a → StandsBehind h shown' c a held
 waits_on h shown shown' c a held was shows = record {
   held = was.held;
@@ -50,7 +50,7 @@ unmarking h shown c blocks a held over was keeps =
       header = was.header;
     }
 
--- That leaves the area, failed or not.
+-- Writing that block leaves the area, failed or not.
 pub area_tried : (h : Hardware) (page : List ℕ) (c c' : disk.Content) (blocks : ℕ) → IsUnmarking h page c blocks → Tries (block_of_slot h 0) page c c' → IsSameArea h (disk.as_it_reads c) (disk.as_it_reads c')
 area_tried h page c c' blocks un tries = kept_by_header h blocks page c c' un.content un.on_disk un.whole un.unmarked un.area tries
 
@@ -115,7 +115,7 @@ runs_unsure h shown shown' c a was names = record {
   area = was.area;
 }
 
--- After the sync no image is there, and it runs.
+-- After the sync no image is on the disk, and the machine runs.
 pub runs_synced : (h : Hardware) (shown shown' : WorldView) (c c' : disk.Content) (blocks : ℕ) (a : Running) (held : Held) → disk.IsContent blocks c → disk.Syncs c c' → (Marked h (disk.as_it_reads c) → ⊥) →
     StandsBehind h shown c a held → NamesOnly h shown' [] → StandsOn h shown' c' (with_held a nothing)
 runs_synced h shown shown' c c' blocks a held whole syncs unmarked was names =

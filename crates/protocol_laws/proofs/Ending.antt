@@ -21,7 +21,7 @@ use Rattle.protocol_laws.specs.Hibernating.{EndFails, EndLeaves, EndsAsleep, End
 pub held_at_end : (h : Hardware) (shown : WorldView) (c : disk.Content) (suspends : Bool) (i : Image) (a : Running) (k : ℕ) → k + 1 ≡ hibernate_steps i → Stands h shown c (hibernating suspends i a k) → IsHeld h c (maybe (own i))
 held_at_end h shown c suspends i a k last stands = subst (IsHeld h c) (held_behind suspends i a k (omega arith)) stands.parts.behind.held
 
--- after it the image is surely there
+-- after the last sync the image is certainly on the disk
 held_sure : (h : Hardware) (shown : WorldView) (c c' : disk.Content) (blocks : ℕ) (suspends : Bool) (i : Image) (a : Running) (k : ℕ) → IsOverDisk h i blocks c → Stands h shown c (hibernating suspends i a k) → k + 1 ≡ hibernate_steps i → disk.Syncs c c' → IsHeld h c' (sure (own i))
 held_sure h shown c c' blocks suspends i a k over stands last syncs v in' =
     let here = IsImage-as_it_reads blocks c over.content in
@@ -63,7 +63,7 @@ ends_asleep h shown shown' c c' blocks suspends i a k over stands last syncs act
       };
     }
 
--- it has left the mark and the blocks in every image
+-- the last sync has left the mark and the blocks in every image
 pub end_leaves : EndLeaves
 end_leaves h shown c c' blocks suspends i a k over stands last syncs v in' =
     let here = IsImage-as_it_reads blocks c over.content in

@@ -54,7 +54,7 @@ left_cut h (waking i held a k) c c' restarts = tt
 left_cut h (loading load k) c c' restarts = λ w in'. (w, image_cut c c' w restarts in', inl refl)
 left_cut h (asleep i held a) c c' restarts = tt
 
--- where it is written taken back
+-- when block(0) is written taken back
 pub header_written : (h : Hardware) (shown : WorldView) (c c' : disk.Content) (blocks : ℕ) → IsBefore h shown c blocks → Tries (block_of_slot h 0) (taken_back shown.header) c c' → KeepsHeaderOrTakesBack h c c'
 header_written h shown c c' blocks before tries =
     λ w in'. (disk.as_it_reads c, IsImage-as_it_reads blocks c before.content, (each_taken_back h shown c c' blocks w before tries in').header)

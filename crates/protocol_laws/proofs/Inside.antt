@@ -43,7 +43,7 @@ image_left blocks c c' w whole after leaves mixed =
       ];
     }
 
--- so each image afterwards is one of before
+-- each image afterwards is one of the images before
 pub images_left : (blocks : ℕ) (c c' : disk.Content) (w : disk.DiskImage) → disk.IsContent blocks c → disk.IsContent blocks c' → ((b : ℕ) → LeavesBlock b c c') → disk.IsImage c' w → disk.IsImage c w
 images_left blocks c c' w whole after leaves in' =
     let size = in'.size in

@@ -55,7 +55,7 @@ pages_are h a i hw fits accepted info =
     IsPage-stream_pages (info_of_image i) (marked_numbers (numbers_of i) (without_data i)) (map second (with_data i)) info
     (All-map IsPage second (with_data i) (All-filter (has_data i.format) (λ (saved : ℕ × List ℕ). IsPage saved.1) i.frames whole))
 
--- Its writes.
+-- The writes of the stream.
 
 abbrev pub count_of : Image → ℕ
 count_of i = length (stream_of i) + maps_of (length (stream_of i))

@@ -1,4 +1,4 @@
--- Events that end no hibernation leave no image behind.
+-- Events that don't end a hibernation leave no image.
 use Rattle.std.proofs.Common.{◌≡◌, ℕ, Bool, true, false, not, Some, subst}
 use Rattle.std.proofs.lemmas.Option.{none-some, same_Some}
 use Rattle.definitions.specs.Disk as disk
@@ -23,14 +23,14 @@ idle_step : (b : Bool) (r : Reply) → refused_if b reply.Idle ≡ Some r → re
 idle_step true r e = same_Some reply.Idle r e
 idle_step false r e = absurd (none-some r e)
 
--- nor does a refusal
+-- a refusal leaves no image
 pub leaves_refused : (h : Hardware) (e : Event) (r : Reply) (a : State) (c : disk.Content) → refusal h a e ≡ Some r → LeavesImage h e r a c
 unfolding refusal
 leaves_refused h (event.Step actor.Core) r a c refused = subst (λ (x : Reply). LeavesImage h (event.Step actor.Core) x a c) (idle_step (not (has_step a actor.Core)) r refused) tt
 leaves_refused h (event.Step (actor.Task t)) r a c refused = tt
 leaves_refused h _ r a c refused = tt
 
--- nor does an undo
+-- an undo leaves no image
 pub leaves_undoing : (h : Hardware) (r : Reply) (i : Image) (call : UndoCall) (a : Running) (k : ℕ) (c : disk.Content) → LeavesImage h (event.Step actor.Core) r (undoing i call a k) c
 leaves_undoing h (reply.Hibernated n) i call a k c = tt
 leaves_undoing h (reply.Asleep n) i call a k c = tt

@@ -1,4 +1,4 @@
--- What a resume answers, for an image that the machine made and for another's.
+-- What a resume replies, for an image that the machine made and for another's.
 use Rattle.std.proofs.Common.{◌≡◌, ◌≢◌, ◌<◌, ◌≤◌, ◌⊎◌, ℕ, ◌+◌, inl, inr, zero, suc, ltb, Bool, true, false, cond, not, Option, Some, None, slice_get, unwrap_or, refl, sym, ap, ◌∙◌, subst, arith, nat_eq}
 use Rattle.std.specs.Cmp.Lexicographic.{pointwise, same_text, other_text}
 use Rattle.std.proofs.lemmas.Bool.{cases_Bool, cases_lt, false≢true}

@@ -148,7 +148,7 @@ find_compressed_row h shown shown' c blocks flags load whole stands says rest =
 
 -- Else the image is found.
 
--- what is found, and the row of it
+-- what a resume finds, and the row for that
 abbrev Finds : Hardware → WorldView → disk.Content → Load → Type 0
 Finds h shown' c load =
     (found : Found) × IsFoundIn h (with_finding load found) (disk.as_it_reads c) ×
@@ -273,7 +273,7 @@ take_back_fault_row h shown shown' c c' blocks load v hw whole after stands is f
   leaves = tt;
 }
 
--- The sync after it.
+-- The sync after that write.
 
 pub back_sync_row : BackSyncRow
 back_sync_row h shown shown' c c' blocks load v hw whole stands is gone syncs none shows = record {
@@ -364,7 +364,7 @@ read_stop_row h shown shown' c load v k r reads says stop rest = record {
   leaves = leaves_loading h r load k c;
 }
 
--- where it reads there is a step
+-- if the resume still has a place to read, there is a step
 reading_there : (h : Hardware) (load : Load) (v : disk.DiskImage) (found : Found) (k : ℕ) → IsHardware h → IsFoundOn h v found → HaveGoneOn h load v k → k < 4 + place_count (info_in h v).pages → IsThere h load found k
 reading_there h load v not_yet k hw is gone within = absurd is
 reading_there h load v (found_own i) k hw is gone within = there_own h load i k (own_within h v i k (own_disk h v i hw is) within)

@@ -52,7 +52,7 @@ fault_step h v load k r b there e = by_core h v load k r b there (0, omega arith
 pub late_fault : (load : Load) (k : ℕ) → 4 ≤ k → load_fault load k ≡ (reply.ReadFault Gone, off nothing None)
 late_fault load k le = ap (fault_of_load load) (load_call-late k le)
 
--- Behind the second step.
+-- After the second step.
 
 in_tail : {A : Type 0} (x : A) (xs : List A) (y : A) → Contains xs y → Contains (x ∷ xs) y
 in_tail x xs y (k, lt, e) = (suc k, omega arith, e)
@@ -99,7 +99,7 @@ pub other_goes : (h : Hardware) (w v : disk.DiskImage) (load : Load) (k : ℕ) (
     Step h w (loading (with_found_other load v) k) (event.Step actor.Core) r b
 other_goes h w v load k r b le says state = found_step h w (with_found_other load v) k r b (there_other h (with_found_other load v) v k r says) le (traced h (with_found_other load v) v k r b says state)
 
--- what stops it turns the machine off
+-- what stops a resume turns the machine off
 pub stopped_off : (h : Hardware) (load : Load) (v : disk.DiskImage) (k : ℕ) (r : Reply) → is_no_stop r ≡ false → other_state h load v k r ≡ off nothing None
 stopped_off h load v k (reply.Loading j) e = absurd (false≢true (sym e))
 stopped_off h load v k (reply.Resumed n) e = absurd (false≢true (sym e))

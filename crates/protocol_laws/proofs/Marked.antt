@@ -225,7 +225,7 @@ mark_fails h shown shown' c c' blocks suspends i a k over after stands last trie
       };
     }
 
--- one that is made is a step of the hibernation
+-- a mark that is made is a step of the hibernation
 pub marks_on : MarksOn
 marks_on h shown shown' c c' blocks suspends i a k over after stands last writes header activity shows =
     let is : IsTried h shown c c' blocks suspends i a k = record { ready = record { over = over; stands = stands; last = last }; after = after; tries = inl writes } in

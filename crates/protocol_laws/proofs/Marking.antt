@@ -230,7 +230,7 @@ mark_torn h shown c c' blocks suspends i a k v ready tries is =
     torn_image blocks (block_of_slot h 0) (marked_header h a i shown.header) c c' v ready.over.content lt mark.whole tries
     (λ w in_w. subst (λ (page : List ℕ). AgreeBut 3584 4096 page (marked_header h a i shown.header)) (sym kept.block ∙ ap (λ (u : disk.DiskImage). disk.block u (block_of_slot h 0)) (one (now c) w here in_w)) mark.within) is
 
--- One with the marked page: what it has is the image.
+-- A disk image with the marked page: what it has is the saved image.
 pub record HasPage (h : Hardware) (c : disk.Content) (page : List ℕ) (v : disk.DiskImage) : Type 0 where
   pub here : disk.block v (block_of_slot h 0) ≡ page
   pub from : disk.DiskImage
@@ -243,7 +243,7 @@ blocks_of_marked h c blocks page v whole has = let size = has.same.size in let i
 pub header_of_marked : (h : Hardware) (c : disk.Content) (blocks : ℕ) (page : List ℕ) (v : disk.DiskImage) → disk.IsContent blocks c → block_of_slot h 0 < blocks → HasPage h c page v → header_of h v ≡ page
 header_of_marked h c blocks page v whole lt has = header_is h v (let n = blocks_of_marked h c blocks page v whole has in omega arith) ∙ has.here
 
--- it reads as laid
+-- a disk image with the marked page reads as laid
 pub marked_reads : (h : Hardware) (shown : WorldView) (c : disk.Content) (blocks : ℕ) (suspends : Bool) (i : Image) (a : Running) (k : ℕ) (page : List ℕ) (v : disk.DiskImage) → IsReady h shown c blocks suspends i a k → HasPage h c page v → ReadsLaid h (unused_slots h a.memory) (stream_of i) v
 marked_reads h shown c blocks suspends i a k page v ready has j lt =
     let stands = ready.stands in
@@ -298,7 +298,7 @@ marked_usable h shown c blocks suspends i a k v ready has =
       fits = omega arith;
     }
 
--- it holds the image
+-- a disk image with the marked page holds the saved image
 pub marked_holds : (h : Hardware) (shown : WorldView) (c : disk.Content) (blocks : ℕ) (suspends : Bool) (i : Image) (a : Running) (k : ℕ) (v : disk.DiskImage) → IsReady h shown c blocks suspends i a k → HasPage h c (marked_header h a i shown.header) v → Holds h v i
 marked_holds h shown c blocks suspends i a k v ready has =
     let stands = ready.stands in

@@ -113,7 +113,7 @@ back_twice page whole =
           (twice.sig (i - 4086) (omega arith) ∙ once.front (4076 + (i - 4086)) (omega arith) ∙ sym (once.sig (i - 4086) (omega arith)))
     ])
 
--- so what is taken back from a disk that is v, or v taken back, is v or v taken back
+-- if w is v or v taken back, and u is w or w taken back, then u is v or v taken back
 back_again : (h : Hardware) (v w u : disk.DiskImage) → IsPage (header_of h w) → IsSameOrTakenBack h v w → IsSameOrTakenBack h w u → IsSameOrTakenBack h v u
 back_again h v w u page first second =
     let size = first.size in
@@ -160,7 +160,7 @@ take_other_back_fails h shown shown' c c' blocks load v hw whole after stands fa
   parts = record { memory = kept; held = tt; header = still_header h shown c c' blocks (before_other h shown c blocks load v whole stands) after (inr fails) };
 }
 
--- The sync after it.
+-- The sync after that write.
 
 pub back_syncs_other : BackSyncsOther
 back_syncs_other h shown shown' c c' blocks load v = unmarked_synced h shown shown' c c' blocks (with_found_other load v)

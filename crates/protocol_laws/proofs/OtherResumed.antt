@@ -65,7 +65,7 @@ has_page h v m s page e =
     let some = ltb-true 0 entry each.1 in
     ((ltb-true s h.slots each.0, omega arith, leb-true entry 64 each.2), is.1)
 
--- and each task's slot has one
+-- and each task's slot has a page
 pub is_paged : (h : Hardware) (v : disk.DiskImage) (m : Memory) (s : ℕ) → IsTaskSlot h m s → IsSome (slots_in h v m s)
 is_paged h v m s is =
     let entry = slot_entry h m s in

@@ -69,7 +69,7 @@ free_not_header h m s hw fits free =
     let lt = free.within in
     blocks_differ h 0 s hw (omega arith) lt (λ e. omega arith)
 
--- nor is it a slot with another entry
+-- the block of a free slot isn't that of a slot with another entry
 pub free_not_used : (h : Hardware) (m : Memory) (s t : ℕ) → IsHardware h → IsFree h m s → t < h.slots → 1 ≤ slot_entry h m t → block_of_slot h t ≢ block_of_slot h s
 free_not_used h m s t hw free lt used =
     blocks_differ h t s hw lt free.within (λ e. let same : slot_entry h m t ≡ 0 = ap (slot_entry h m) e ∙ free.free in let r : ⊥ = omega arith in r)

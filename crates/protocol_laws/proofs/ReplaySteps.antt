@@ -34,7 +34,7 @@ use Rattle.protocol_laws.specs.Replays.{IsOwnHeld, IsOwnFound, IsOfReplay, SameS
 use Rattle.protocol_laws.specs.Rows.{IsSameArea}
 use Rattle.protocol_laws.proofs.Areas.{same_of_kinds}
 
--- Over one area.
+-- Two disks with the same area.
 
 fault_same : (h : Hardware) (v w : disk.DiskImage) → IsSameArea h v w → area_fault h w ≡ area_fault h v
 unfolding area_fault

@@ -30,7 +30,7 @@ use Rattle.plain_machine.proofs.SameMemory.{entry-same, of_frame_table, table_fr
 use Rattle.protocol_laws.proofs.Laid.{saveable_page}
 use Rattle.protocol_laws.proofs.Resumed.{restored_slots}
 
--- Its frame table is the image's.
+-- The frame table of restored memory is the image's.
 
 frame_saved : (h : Hardware) (m : Memory) (f : ℕ) → IsHardware h → Fits h m → IsTableFrame h f → Contains (saveable h m) f
 unfolding saveable_frames
@@ -44,7 +44,7 @@ restored_entry h dump m loader i p hw fits is in' =
     let back = restored-saveable h dump m loader i.slots i.format f saved (below_top h.zones f hw.zones.apart (table_frame_valid h f hw (inl of))) in
     entry-same m (restored h dump loader i) h.frame_table p (subst (λ (x : Image). frame (restored h dump loader x) f ≡ frame m f) (sym is) back)
 
--- Its pages.
+-- The pages of restored memory.
 
 length-loader_page : IsPage loader_page
 unfolding loader_page
@@ -154,7 +154,7 @@ of_tables h false f in' = elim (either_part (slot_table_frames h) (frame_table_f
 pub fits_no_fault : (h : Hardware) (m : Memory) → Fits h m → tables_fault h m ≡ None
 fits_no_fault h m fits = none_found (is_table_at_fault h m) (table_frames h) (λ f in'. good_frame h m f fits (of_tables h (ltb h.frame_table h.slot_table) f in'))
 
--- The area fits it.
+-- The area fits the restored memory.
 pub restored_area : (h : Hardware) (v : disk.DiskImage) (dump m : Memory) (loader : Loader) (i : Image) → IsHardware h → IsImageOf h v i m → dump_area_fault h v (restored h dump loader i) ≡ None
 unfolding dump_area_fault
 restored_area h v dump m loader i hw is =

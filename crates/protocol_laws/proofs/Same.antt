@@ -73,7 +73,7 @@ area_kept h c c' a keeps is = is ∙ sym (same_dump_area h (as_it_reads c') (as_
 pub nothing_kept : (h : Hardware) (c c' : Content) → KeepsHeader h c c' → IsHeld h c nothing → IsHeld h c' nothing
 nothing_kept h c c' keeps is = λ v in' marked. let was = keeps.each v in' in is was.0 was.1 (same_mark h v was.0 was.2 marked)
 
--- Which calls keep it.
+-- Which calls keep the header.
 
 -- a write of another block, failed or not
 pub reads_kept : (x b : ℕ) (page : List ℕ) (c c' : Content) → Tries x page c c' → b ≢ x → block (as_it_reads c') b ≡ block (as_it_reads c) b

@@ -1,4 +1,4 @@
--- A block is of an image just where it carries the signature.
+-- A block is an image's if and only if it carries the signature.
 use Rattle.std.proofs.Common.{◌≡◌, ℕ, Bool, true, false, cond, List, Option, Some, None, refl, sym, ◌∙◌, nat_lt, nat_eq, eqb}
 use Rattle.std.specs.Cmp.Lexicographic.{pointwise, same_text, other_text}
 use Rattle.definitions.specs.SwapHeader.{IsMarked, sig_of, image_signature, old_signature, area_signature, version_of, last_page_of, bad_count_of, bad_pages_of, first_outside}

@@ -32,7 +32,7 @@ abbrev is_loading : Reply → Bool
 is_loading (reply.Loading k) = true
 is_loading r = false
 
--- there is no cause, or it is none of them
+-- there is no cause, or the cause is none of these replies
 abbrev pub Stops : Option Reply → Type 0
 Stops cause = goes_on cause ≡ false where
   goes_on : Option Reply → Bool
@@ -170,7 +170,7 @@ stops_taken_back h v =
     stops_cond (is_set (flags_of header) 8 && not (eqb (hw_sig_of header) h.hw_sig)) (Some (reply.HwMismatch (hw_sig_of header) h.hw_sig)) (map_fault h v (first_map h v) 0) refl
     (stops_map h v (first_map h v) 0)
 
--- So a step that answers none of them had no cause.
+-- A step whose reply is one of those that never stop a resume had no cause.
 pub none_passed : (cause : Option Reply) (past r : Reply) → Stops cause → is_no_stop r ≡ true → unwrap_or cause past ≡ r → cause ≡ None
 none_passed None past r stops passes answer = refl
 none_passed (Some x) past r stops passes answer = absurd (false≢true (sym stops ∙ ap is_no_stop answer ∙ passes))

@@ -28,7 +28,7 @@ use Rattle.protocol_laws.proofs.Places.{blocks_differ, task_not_header, usable_a
 use Rattle.protocol_laws.proofs.Same.{KeepsHeader, header_kept, area_kept, nothing_kept, by_other_write, reads_kept}
 use Rattle.protocol_laws.proofs.SwapRequests.{Flies, NamesNoMore, dump_area-by, one_of_two, same_on, valid_in, no_table, names_fewer, flight_of, slot_within, flight_stays, task_slot_by, flight_other, flight_own, same_task, target_of_other, other_target, slot_out, same_slot, comes_not_out, reslots, reslots_page}
 
--- An operation ends: the others are as they were.
+-- An operation ends: the other slots are as they were.
 
 -- the others' operations, where slot s was the task's
 record Lands (h : Hardware) (a : Running) (t s : ℕ) (n : Memory) : Type 0 where
@@ -92,7 +92,7 @@ task_slot h a t s p is =
 
 -- An out is written.
 
--- its block isn't the header's, and the disk has it
+-- the block of the slot that an out goes to isn't the header's, and the disk has it
 pub record IsOutBlock (h : Hardware) (a : Running) (c : disk.Content) (s : ℕ) : Type 0 where
   pub not_header : block_of_slot h 0 ≢ block_of_slot h s
   pub within : 8 * block_of_slot h s + 8 ≤ length c
@@ -162,7 +162,7 @@ out_written h shown shown' c c' blocks a t s p hw content fits on' flight whole 
       area = area_kept h c c' a keeps on'.area;
     }
 
--- One that fails gives the slot back.
+-- An out that fails gives the slot back.
 pub out_fails : (h : Hardware) (shown shown' : WorldView) (c c' : disk.Content) (blocks : ℕ) (a : Running) (t s p : ℕ) (page : List ℕ) → IsHardware h → disk.IsContent blocks c → Fits h a.memory → StandsOn h shown c a → a.flights t ≡ Some (goes_out s p) →
     disk.FailsToWrite (block_of_slot h s) page c c' → NamesNoMore h shown.frames shown'.frames →
     StandsOn h shown' c' (record a { flights = with_flight a.flights t None; memory = with_slot_entry h a.memory s 0 })
@@ -233,7 +233,7 @@ in_read h shown shown' c a t s p page hw fits on' flight fewer =
       area = on'.area ∙ sym (dump_area-by h (disk.as_it_reads c) m n re.bad);
     }
 
--- One that can't be read stays in its slot.
+-- A page that can't be read stays in its slot.
 pub in_fails : (h : Hardware) (shown shown' : WorldView) (c : disk.Content) (a : Running) (t s p : ℕ) → StandsOn h shown c a → a.flights t ≡ Some (comes_in s p) → NamesNoMore h shown.frames shown'.frames →
     StandsOn h shown' c (record a { flights = with_flight a.flights t None })
 in_fails h shown shown' c a t s p on' flight fewer =

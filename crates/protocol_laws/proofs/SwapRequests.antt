@@ -125,7 +125,7 @@ request_cases : (h : Hardware) (v : disk.DiskImage) (a : Running) (t : ℕ) (o :
 unfolding outcomes refusal
 request_cases h v a t o r b step = by_refusal (on a) b r (task_refusal h t o a) (requested h a t o) step
 
--- a task that has an operation ends it
+-- a step of a task that has an operation ends the operation
 pub ends : (h : Hardware) (v : disk.DiskImage) (a : Running) (t : ℕ) (f : Flight) (r : Reply) (b : State) → a.flights t ≡ Some f → Step h v (on a) (event.Step (actor.Task t)) r b → Contains (finished h a t f) (r, b)
 unfolding outcomes refusal
 ends h v a t f r b flight step =
@@ -403,7 +403,7 @@ reslots_page h m n s e p x hw apart lt is =
       bad = λ q q_lt. ap (λ (y : ℕ). eqb y bad_slot) (entry q q_lt) ∙ is.bad q q_lt;
     }
 
--- a running state as it is, of which a world shows no slot more as the image's
+-- a running state is unchanged, and the world shows no further slot as the image's
 still_on : (h : Hardware) (shown shown' : WorldView) (c : disk.Content) (a : Running) → StandsOn h shown c a → NamesNoMore h shown.frames shown'.frames → StandsOn h shown' c a
 still_on h shown shown' c a on' fewer = record {
   held = on'.held;

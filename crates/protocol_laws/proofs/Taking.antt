@@ -115,7 +115,7 @@ is_memory-seen h m is = record {
 pub seen_seen : (h : Hardware) (m : Memory) → IsMemoryOf h m → seen_frames h (seen_frames h m) ≡ seen_frames h m
 seen_seen h m is = seen-plain h (seen_frames h m) (λ k lt e. none_left h m k is lt e)
 
--- So a running state that the page frames show is still shown.
+-- A running state that the page frames show is still shown.
 
 pub runs_taken : RunsTaken
 runs_taken h flag why ops m ss a is free runs = record {

@@ -50,7 +50,7 @@ held_back h shown c blocks i v before held (back w in_w same taken) =
     let page : area_block h v ≡ area_block h w = area_back h shown c blocks v before (back w in_w same taken) ∙ sym (area_back h shown c blocks w before (still in_w)) in
     (inl never, own_back h i v w (ap (λ (n : ℕ). n / 8) same.size) page never (held w in_w).1)
 
--- the parts of a resume that has tried it
+-- the parts of a resume that has tried to take block(0) back
 stands_off : (h : Hardware) (shown : WorldView) (c c' : disk.Content) (blocks : ℕ) (load : Load) (i : Image) → disk.IsContent blocks c → disk.IsContent blocks c' → Stands h shown c (loading (with_found load i) 2) → Tries (block_of_slot h 0) (taken_back shown.header) c c' → IsHeld h c' (maybe (own i)) × IsHeader h c'
 stands_off h shown c c' blocks load i whole after stands tries =
     let before = before_back h shown c blocks load i whole stands in (

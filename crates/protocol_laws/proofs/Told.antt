@@ -1,4 +1,4 @@
--- What is known of a disk's content before and after a call, where the disk tells it.
+-- What is known of a disk's content before and after a call, if the disk tells its content.
 use Rattle.std.proofs.Common.{◌≡◌, ◌<◌, ℕ, ltb, arith, List, Option, Some, None, refl, sym, ap, ◌∙◌, subst}
 use Rattle.std.specs.Option.{IfSome}
 use Rattle.std.proofs.lemmas.Bool.{cond-true, lt-ltb}

@@ -15,7 +15,7 @@ use Rattle.protocol_laws.proofs.Stopping.{stops_cause, header_passed, stops_take
 pub past_more : (h : Hardware) (dump : Memory) (v : disk.DiskImage) (loader : Loader) (k : ℕ) → k + 1 < step_count h v → reply_past h dump v loader k ≡ reply.Loading (k + 1)
 past_more h dump v loader k more = cond-true (ltb (k + 1) (step_count h v)) (reply.Loading (k + 1)) (last_reply h dump v loader) (lt-ltb (k + 1) (step_count h v) more)
 
--- and the last one ends it
+-- and the last step ends the resume
 pub past_last : (h : Hardware) (dump : Memory) (v : disk.DiskImage) (loader : Loader) (k : ℕ) → step_count h v ≤ k + 1 → reply_past h dump v loader k ≡ last_reply h dump v loader
 past_last h dump v loader k over = cond-false (ltb (k + 1) (step_count h v)) (reply.Loading (k + 1)) (last_reply h dump v loader) (le-ltb (k + 1) (step_count h v) over)
 

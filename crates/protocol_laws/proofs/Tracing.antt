@@ -148,7 +148,7 @@ earlier_comes : (h : Hardware) (load : Load) (i : Image) (k j : ℕ) → j < k �
 earlier_comes h load i k j lt (inl early) = inl (omega arith)
 earlier_comes h load i k j lt (inr room) = inr room
 
--- What the plain machine answers.
+-- What the plain machine replies.
 
 and_true_left : (b c : Bool) → c ≡ false → (b && c) ≡ false
 and_true_left true c e = e
@@ -244,7 +244,7 @@ later_reply h v i load k t is four lt comes = elim (cases_Bool (has_room h load 
 some_places : (h : Hardware) (v : disk.DiskImage) → 4 < step_count h v
 some_places h v = omega arith
 
--- a step over an own image answers what the plain machine does
+-- a step over an own image has the reply of the plain machine
 reply_own : (h : Hardware) (v : disk.DiskImage) (i : Image) (load : Load) (k : ℕ) → IsOwnDisk h v i → 1 ≤ k → k < resume_steps i → Comes h load i k → reply_at h load.dump v load.loader load.check k ≡ own_reply h load i k
 reply_own h v i load zero is some lt comes = absurd (omega arith)
 reply_own h v i load (suc zero) is some lt comes =
@@ -254,7 +254,7 @@ reply_own h v i load (suc (suc (suc zero))) is some lt comes =
     ap (λ (o : Option Reply). unwrap_or o (reply_past h load.dump v load.loader 3)) (no_taken_back_cause h v i is.holds is.own) ∙ past_more h load.dump v load.loader 3 (some_places h v) ∙ sym (early_reply h load i 3 (omega arith) (are_few h v i is).some)
 reply_own h v i load (suc (suc (suc (suc t)))) is some lt comes = later_reply h v i load (suc (suc (suc (suc t)))) t is (omega arith) lt comes
 
--- and each before it went on
+-- each step before that one went on
 gone_on : (h : Hardware) (v : disk.DiskImage) (i : Image) (load : Load) (k j : ℕ) → IsOwnDisk h v i → k < resume_steps i → Comes h load i k → j < k → reply_at h load.dump v load.loader load.check j ≡ reply.Loading (j + 1)
 gone_on h v i load k zero is lt comes j_lt = first_reply h load.dump v load.loader load.check
 gone_on h v i load k (suc j) is lt comes j_lt =

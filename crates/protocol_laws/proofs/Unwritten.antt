@@ -63,7 +63,7 @@ unwritten_header h others b c c' same not = block_other b (block_of_slot h 0) c 
 later_in : (x b : ℕ) (xs : List ℕ) → Contains xs b → Contains (x ∷ xs) b
 later_in x b xs in' = (suc in'.0, (let lt = in'.1 in omega arith), in'.2)
 
--- one that writes the image
+-- a call that writes the image
 write_in_laid : (h : Hardware) (a : Running) (i : Image) (k : ℕ) → k < length (laid_writes h a i) → Contains (laid_blocks h a i) (write_of_step h a i k).0
 write_in_laid h a i k lt =
     let first : ℕ × List ℕ → ℕ = λ written. written.0 in
@@ -109,7 +109,7 @@ only_in x b xs e in' = one_is x b (subst (λ (ys : List ℕ). Contains ys b) e i
   one_is x b (zero, lt, e) = sym e
   one_is x b (suc k, lt, e) = absurd (omega arith)
 
--- it is block(0), or one of the image's
+-- the block that a step writes is block(0), or one of the image's
 pub step_in_laid : (h : Hardware) (a : Running) (i : Image) (k b : ℕ) → Contains (block_of_step h a i k) b → Contains (block_of_slot h 0 ∷ laid_blocks h a i) b
 step_in_laid h a i k b = by_call (hibernation_call i k) (is_at i k) where
   by_call : (call : Option HibernationCall) → IsAt call k (hibernate_steps i) → Contains (block_of_call h a i k call) b → Contains (block_of_slot h 0 ∷ laid_blocks h a i) b

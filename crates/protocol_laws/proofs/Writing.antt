@@ -23,7 +23,7 @@ use Rattle.protocol_laws.specs.Hibernating.{WriteFails, WritesElsewhere, WritesO
 abbrev step_write : Hardware → Running → Image → ℕ → ℕ × List ℕ
 step_write h a i k = write_at h.extents (unused_slots h a.memory) (stream_of i) k
 
--- the state before it
+-- the state before the write
 pub record IsWriting (h : Hardware) (shown : WorldView) (c : disk.Content) (blocks : ℕ) (suspends : Bool) (i : Image) (a : Running) (k : ℕ) : Type 0 where
   pub over : IsOverDisk h i blocks c
   pub stands : Stands h shown c (hibernating suspends i a k)
@@ -93,7 +93,7 @@ writes_on h shown shown' c c' blocks suspends i a k over stands lt wrote activit
       };
     }
 
--- One that fails lets the machine run again.
+-- A write that fails lets the machine run again.
 pub write_fails : WriteFails
 write_fails h shown shown' c c' blocks suspends i a k over stands lt failed activity shows names =
     let steps = count_is i in
@@ -103,7 +103,7 @@ write_fails h shown shown' c c' blocks suspends i a k over stands lt failed acti
     goes_back h shown shown' c c' suspends i a k (omega arith) stands (tries_header h shown c c' blocks suspends i a k (step_write h a i k).1 is (inr tried))
     (tries_slots h shown c c' blocks suspends i a k (step_write h a i k).1 is (inr tried)) activity shows names
 
--- It is of another block than the header's.
+-- The block that is written isn't the header's.
 pub elsewhere : WritesElsewhere
 elsewhere h shown c blocks suspends i a k over stands lt e =
     let steps = count_is i in

@@ -37,7 +37,7 @@ none_dropped f g t xs un =
     let same = ap length (filter_agrees g f xs (λ x in'. un.others x in' (λ none. Contains-nil x none))) in
     omega arith
 
--- so are as many fewer picked
+-- g picks as many fewer as are dropped
 abbrev Counts : (ℕ → Bool) → (ℕ → Bool) → (ℕ → Bool) → ℕ → List ℕ → Type 0
 Counts f g t k xs = length (filter g xs) + length (take k (filter t xs)) ≡ length (filter f xs)
 

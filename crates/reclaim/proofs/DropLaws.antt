@@ -41,7 +41,7 @@ take_both n xs ys = elim (cases_lt n (length xs)) [
 filter_cons : (p q : ℕ → Bool) (x : ℕ) (xs : List ℕ) (b : Bool) → p x ≡ b → q x ≡ b → filter p xs ≡ filter q xs → filter p (x ∷ xs) ≡ filter q (x ∷ xs)
 filter_cons p q x xs b is is' rest = ap₂ (λ (c : Bool) (ys : List ℕ). cond c (x ∷ ys) ys) (is ∙ sym is') rest
 
--- two tests that agree on a list pick the same of it
+-- two tests that agree on a list pick the same elements
 pub filter_agrees : (p q : ℕ → Bool) (xs : List ℕ) → ((x : ℕ) → Contains xs x → p x ≡ q x) → filter p xs ≡ filter q xs
 filter_agrees p q [] agree = refl
 filter_agrees p q (x ∷ xs) agree = filter_cons p q x xs (q x) (agree x (Contains-head x xs)) refl (filter_agrees p q xs (λ y in'. agree y (Contains-tail x xs y in')))
@@ -123,7 +123,7 @@ range_none keep table old most start =
     let zero_len : start - start ≡ 0 = omega arith in
     ap (λ (n : ℕ). dropped_of keep table old most (range_with_len start n)) zero_len ∙ take_all most [] (omega arith)
 
--- A page frame is saveable just where its entry says so.
+-- A page frame is saveable if and only if its entry says so.
 pub saveable-true : (zones : List (ℕ × ℕ)) (table : ℕ) (frames : List (List ℕ)) (p : ℕ) → Contains (saveable_frames zones table frames) p → saveable_by_entry table frames p ≡ true
 saveable-true zones table frames p in' = (Contains-from_saveable_frames zones table frames p in').1
 

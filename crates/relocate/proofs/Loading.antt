@@ -214,7 +214,7 @@ length-real_le (m ∷ moves) =
       | inr other ↦ let same = ap length (real-other m moves other) in omega arith
     ]
 
--- so few are pending after i moves
+-- at most `top` moves are pending after i moves
 pub pending_at_most : (o : Order) (moves : List Move) (i top bounce : ℕ) → IsAt o (begun (take i moves)) → IsMovable top bounce moves → o.pending ≤ top
 pending_at_most o moves i top bounce at movable =
     let most = moves_at_most top bounce moves movable in

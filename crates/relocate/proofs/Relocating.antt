@@ -143,7 +143,7 @@ join_all_few bounce (m ∷ moves) =
     let rest = joined_few bounce moves (first_entry m) in
     omega arith
 
--- They copy a page for each move.
+-- The entries copy a page for each move.
 
 steps-joined : (bounce : ℕ) (moves : List Move) (e : Entry) → steps_of (joined bounce e moves) ≡ e.2 + length moves
 steps-joined bounce [] e =
@@ -212,7 +212,7 @@ module _ (p : Placed) (is : IsPlacement p) where
         | inr other ↦ let size = ap length (real-other m moves other) in omega arith
       ]
 
-  -- the list frames have room for it
+  -- the list frames have room for the restore list
   pub order_fits : length (order_of p) ≤ 170 * length p.list
   order_fits =
       let same = ap length (order_is p) in

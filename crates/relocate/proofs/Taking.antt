@@ -15,7 +15,7 @@ no_source_of : (o : Option Move) → source_of o ≡ None → o ≡ None
 no_source_of None e = refl
 no_source_of (Some m) e = absurd (not_none m.0 (sym e))
 
--- the pending move that the table tells
+-- the pending move that the table gives
 pub record MoveAt (pending : List Move) (t s : ℕ) : Type 0 where
   pub move : Move
   pub into : move_into pending t ≡ Some move
@@ -126,7 +126,7 @@ follows_more a b c f g first second = record {
 pub HasPass-follows : (old new : Order) (f : Pass → Pass) → Follows old new f → HasPass old → HasPass new
 HasPass-follows old new f follows has = record { pass = f has.pass; at = follows.at has.pass has.at }
 
--- the same by another name of the function
+-- following under another name of the function
 pub follows_as : (a b : Order) (f g : Pass → Pass) → Follows a b f → ((pass : Pass) → IsAt a pass → f pass ≡ g pass) → Follows a b g
 follows_as a b f g follows same = record {
   top = follows.top;

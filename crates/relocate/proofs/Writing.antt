@@ -162,7 +162,7 @@ rest_item moves i d lt =
     let at : 1 + i ≡ i + 1 = omega arith in
     get_or-take (length moves - 1) (drop 1 moves) i d lt ∙ get_or-drop 1 moves i d ∙ ap (λ (k : ℕ). get_or moves k d) at
 
--- the same under other names
+-- written entries under other names
 pub written_as : (memory memory' : List (List ℕ)) (list list' : Listed) (bounce : ℕ) (moves : List Move) (run run' : Entry) (i : ℕ) → memory' ≡ memory → list' ≡ list → run' ≡ run → Written memory list bounce moves run i → Written memory' list' bounce moves run' i
 written_as memory memory' list list' bounce moves run run' i same_memory same_list same_run written =
     subst (λ (e : Entry). Written memory' list' bounce moves e i) (sym same_run)

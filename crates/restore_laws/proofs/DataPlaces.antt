@@ -80,7 +80,7 @@ told_some h v (suc k) n some = elim (cases_lt (512 * (suc k - 1)) (info_in h v).
   | inr ge ↦ (omega arith, ge)
 ]
 
--- it tells how many there are
+-- if the number of saved page frames is told, it is the info page's
 pub told_same : (h : Hardware) (v : disk.DiskImage) (k n : ℕ) → told h v k ≡ Some n → told h v k ≡ Some (info_in h v).image_pages
 told_same h v k n some =
     let all = told_some h v k n some in
@@ -89,7 +89,7 @@ told_same h v k n some =
     let saved = saved_is h v k one in
     told_all h v k one (let e : numbers_read h v k ≡ (info_in h v).image_pages = omega arith in e)
 
--- and so at each later place
+-- the number is told at each later place too
 pub told_later : (h : Hardware) (v : disk.DiskImage) (t n : ℕ) → told h v (pages_read t) ≡ Some n → told h v (pages_read (t + 1)) ≡ Some n
 told_later h v t n some =
     let all = told_some h v (pages_read t) n some in

@@ -43,7 +43,7 @@ word-count (e ∷ es) (suc k) lt =
     let at : 3 * suc k + 2 ≡ 3 + (3 * k + 2) = omega (arith, mul-suc 3 k) in
     rw at (get_or-append-add (words_of e) (flat_map words_of es) (3 * k + 2) 0 ∙ word-count es k (omega arith))
 
--- The low half of a word tells a number that fits in it.
+-- The low half of a word is the number, if the number fits in it.
 
 half_of_run : (words tail : List ℕ) (k : ℕ) → k < length words → get_or words k 0 < 2 ^ 32 → number_at 4 (flat_map (little_bytes 8) words ++ tail) (8 * k) ≡ get_or words k 0
 unfolding number_at

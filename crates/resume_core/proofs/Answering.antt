@@ -1,4 +1,4 @@
--- What a resume answers at a place, by the reader's causes and the loader's room.
+-- What a resume replies at a place, by the reader's causes and the loader's room.
 use Rattle.std.proofs.Common.{◌≡◌, ◌≢◌, ◌<◌, ◌≤◌, inl, inr, ℕ, ◌+◌, ◌-◌, ◌*◌, ◌%◌, suc, zero, min, Bool, true, false, cond, eqb, Option, Some, None, unwrap_or, refl, sym, ap, ◌∙◌, subst, arith}
 use Rattle.std.proofs.lemmas.Bool.{cond-true, cond-false, ne_eqb}
 use Rattle.std.proofs.lemmas.Bool.Decides.{eqb_tells}
@@ -36,7 +36,7 @@ second_none (Some r) b e = absurd (none-some r (sym e))
 with_room : (a w n : Option Reply) → w ≡ None → or_else a (or_else w n) ≡ or_else a n
 with_room a w n e = ap (λ (x : Option Reply). or_else a (or_else x n)) e
 
--- so it answers what comes past the reader's cause
+-- the reply is the reader's cause, or else what comes past it
 reader_reply : (h : Hardware) (dump : Memory) (v : disk.DiskImage) (loader : Loader) (check : IdentCheck) (k : ℕ) (o : Option Reply) → 4 ≤ k → cause_with h v check None (k - 4) ≡ o → want_cause h dump v loader (place (k - 4)) ≡ None →
     reply_at h dump v loader check k ≡ unwrap_or o (reply_past h dump v loader k)
 reader_reply h dump v loader check k o le is room =
@@ -54,11 +54,11 @@ pub ends_reply : (h : Hardware) (dump : Memory) (v : disk.DiskImage) (loader : L
     reply_at h dump v loader check k ≡ last_reply h dump v loader
 ends_reply h dump v loader check k le none room over = reader_reply h dump v loader check k None le none room ∙ past_last h dump v loader k (omega arith)
 
--- one that the reader's cause ends
+-- a step that the reader's cause ends
 pub stops_reply : (h : Hardware) (dump : Memory) (v : disk.DiskImage) (loader : Loader) (check : IdentCheck) (k : ℕ) (r : Reply) → 4 ≤ k → cause_with h v check None (k - 4) ≡ Some r → want_cause h dump v loader (place (k - 4)) ≡ None → reply_at h dump v loader check k ≡ r
 stops_reply h dump v loader check k r le some room = reader_reply h dump v loader check k (Some r) le some room
 
--- one that the loader's room ends
+-- a step that the loader's room ends
 pub room_reply : (h : Hardware) (dump : Memory) (v : disk.DiskImage) (loader : Loader) (check : IdentCheck) (k : ℕ) (r : Reply) → 4 ≤ k → read_cause h v check (place (k - 4)) ≡ None → want_cause h dump v loader (place (k - 4)) ≡ Some r → reply_at h dump v loader check k ≡ r
 room_reply h dump v loader check k r le none few =
     let t = k - 4 in
@@ -109,7 +109,7 @@ no_want_after h dump v loader t e =
     let n = (info_in h v).image_pages in
     no_want_at h dump v loader t (λ page same. omega arith)
 
--- and not before it
+-- and not before the last number page
 pub no_want_before : (h : Hardware) (dump : Memory) (v : disk.DiskImage) (loader : Loader) (t : ℕ) → told h v (pages_read (t + 1)) ≡ None → want_cause h dump v loader (place t) ≡ None
 no_want_before h dump v loader t e = no_want_at h dump v loader t (λ page same.
     let next = read_at_page t page in

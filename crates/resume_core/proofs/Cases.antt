@@ -3,7 +3,7 @@ use Rattle.std.proofs.Common.{◌≡◌, ◌≢◌, ℕ, sym, ap, arith}
 use Rattle.plain_machine.specs.State.{State, off, on, booting, hibernating, undoing, settling, waking, loading, asleep, Load as Resume}
 use Rattle.plain_machine.specs.Shows.{Activity, rests, runs, boots, hibernates, undoes, settles, wakes, loads, sleeps, activity_in}
 
--- What tells activities apart.
+-- What distinguishes activities.
 abbrev rank : Activity → ℕ
 rank rests = 0
 rank runs = 1

@@ -62,7 +62,7 @@ without_next xs ys first from p up are le is =
     let was : Contains ys q = subst (λ (zs : List ℕ). Contains zs q) (sym are) (Contains-filter (test from) xs q kept.0 (outside first from q far)) in
     Contains-removed ys p q was (λ e. elim (out first (p + 1) q kept.1) [ inl lt ↦ absurd (omega arith) | inr ge ↦ absurd (omega arith) ]))
 
--- at the end none is left in it
+-- at the end no member is left in the run
 pub without_all : (xs ys : List ℕ) (first from last : ℕ) → IsStrictlyIncreasing xs → ys ≡ without_run first from xs → from ≤ max first (last + 1) → ((q : ℕ) → Contains ys q → from ≤ q → last < q) → ys ≡ filter (λ p. not (leb first p && leb p last)) xs
 without_all xs ys first from last up are le none =
     let test : ℕ → Bool = λ q. not (leb first q && ltb q from) in

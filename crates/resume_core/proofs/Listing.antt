@@ -208,7 +208,7 @@ over_list_row machine frames load chain machine' frames' load' r c at over =
     let within : chain.done - 4 < place_count (info_in machine.hw knows.0).pages = (let lt = knows.3 in omega arith) in
     absurd (not_over machine.hw knows.0 chain.reader load (chain.done - 4) knows.4 within over))
 
--- what the reader answered for place t of the disk v, from one reading to the other
+-- what the reader returned for place t of the disk v, from one reading to the other
 abbrev pub AnswersFor : Hardware → disk.DiskImage → ℕ → ReadStep → OpenChain → OpenChain → Load → Load → Type 0
 AnswersFor h v t result chain chain' load mid = Answers h v load.check t result chain.reader chain'.reader mid.origs.members mid.zeros.members mid.page
 

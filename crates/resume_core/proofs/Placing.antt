@@ -71,7 +71,7 @@ pub refusal_cause : (o : Option ℕ) (have d : ℕ) (cause : Cause) → room_ref
 refusal_cause None have d cause e = refl
 refusal_cause (Some n) have d cause e = sym (ap (λ (x : Option Reply). unwrap_or x (reply_of cause)) e)
 
--- Behind the last number page.
+-- After the last number page.
 
 some_all : (b : Bool) (n : ℕ) → IsSome (cond b (Some n) None) → cond b (Some n) None ≡ Some n
 some_all true n e = refl
@@ -481,7 +481,7 @@ behind_room h dump v loader check t have d n why some none want = by (room_refus
       content_of_room (read_cause h v check (place t)) (want_cause h dump v loader (place t)) (next_cause h v t) few none (want ∙ e)
       ∙ ap (λ (r : Reply). Some r) (refusal_few (Some n) have d why few refl e)
 
--- what the answer is, by what the reader has listed then
+-- what the reply is, by what the reader has listed then
 pub refusal_is : (h : Hardware) (dump : Memory) (v : disk.DiskImage) (loader : Loader) (check : IdentCheck) (t have d : ℕ) (listed : Option ℕ) (why : Cause) → cause_with h v check None t ≡ Some (reply_of why) → listed ≡ told_after h v check t → told h v (pages_read t) ≡ None →
     have ≡ length (left_free h dump loader) → ((n : ℕ) → listed ≡ Some n → d ≡ d_in h v) → cause_at h dump v loader check t ≡ Some (refusal_behind listed have d why)
 refusal_is h dump v loader check t have d listed why some is before free count = by_read (read_cause h v check (place t)) refl where

@@ -15,7 +15,7 @@ whole_page : (page : List ℕ) → IsPage page → whole page ≡ page
 unfolding whole
 whole_page page is = take_at page (drop (length page) zero_page) 4096 is
 
--- it was read into the page frame where the next page waits
+-- the block was read into the page frame where the next page waits
 pub puts_next : (w : Awaiting) (frames : Memory) (p : ℕ) (page : List ℕ) → WaitsNext w p → top w.zones ≤ length frames → IsPage page → PutsPage w frames (with_frame frames p (whole page)) page
 puts_next w frames p page waits fits is = record {
   before = waits.before frames (whole page);
@@ -23,6 +23,6 @@ puts_next w frames p page waits fits is = record {
   others = λ q occupied. get_or-set_other frames p q (whole page) [] (λ same. occupied (subst (Contains w.free) (sym same) waits.free));
 }
 
--- it was read elsewhere, since all pages wait
+-- the block was read elsewhere, since all pages wait
 pub puts_apart : (w : Awaiting) (frames : Memory) (page : List ℕ) → w.loaded ≡ length w.originals → PutsPage w frames frames page
 puts_apart w frames page all = record { before = refl; next = λ left. absurd (omega arith); others = λ q occupied. refl }

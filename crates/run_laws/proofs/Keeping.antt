@@ -23,7 +23,7 @@ use Rattle.plain_machine.specs.declared.reply.UndoCall.{UndoCall}
 use Rattle.plain_machine.specs.declared.reply.UndoCall.TheVariants as undo
 use Rattle.run_laws.proofs.Spent.{IsResumed}
 
--- no image is there, or perhaps, but this one
+-- no image is on the disk, or perhaps, but this one
 abbrev pub IsOnly : Image → Held → Type 0
 IsOnly i nothing = ⊤
 IsOnly i (sure (own j)) = j ≡ i

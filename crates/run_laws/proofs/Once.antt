@@ -48,7 +48,7 @@ later_event e es r rs j at = record {
   accepted = at.accepted;
 }
 
--- this event is one, or one stands among the later ones
+-- this event is a hibernation, or a hibernation stands among the later events
 found_by : (e : Event) (es : List Event) (r : Reply) (rs : List Reply) (mid : State) (k : ℕ) → Stays e (r, mid) → (IsSpent mid → (j : ℕ) × (j < k) × HibernatesAt es rs j) →
     (j : ℕ) × (j < suc k) × HibernatesAt (e ∷ es) (r ∷ rs) j
 found_by e es r rs mid k (inl hibernates) later = (0, omega arith, first_event e es r rs hibernates)
@@ -67,7 +67,7 @@ before_resume h v a (e ∷ es) (r ∷ rs) b spent (mid, step, run) zero (n, is) 
 before_resume h v a (e ∷ es) (r ∷ rs) b spent (mid, step, run) (suc k) is =
     found_by e es r rs mid k (spent_stays h v a e r mid step spent) (λ next. before_resume h v mid es rs b next run k is)
 
--- in any run one stands between two of them
+-- in any run a hibernation stands between two resumes
 pub between_resumes : (h : Hardware) (v : disk.DiskImage) (a : State) (es : List Event) (rs : List Reply) (b : State) → Run h v a es rs b → (i k : ℕ) → i < k → ResumesAt rs i → ResumesAt rs k → (j : ℕ) × (i < j) × (j < k) × HibernatesAt es rs j
 between_resumes h v a [] [] b run i k lt (n, e) then = absurd (none-some (reply.Resumed n) e)
 between_resumes h v a [] (r ∷ rs) b run i k lt first then = absurd run

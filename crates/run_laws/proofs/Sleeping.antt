@@ -46,13 +46,13 @@ sleeper (waking i held a k) = Some a
 sleeper (loading load k) = None
 sleeper (asleep i held a) = Some a
 
--- it sleeps, or is being woken, and the image that it made is there, surely or perhaps
+-- the machine sleeps, or is being woken, and the image that it made is on the disk, surely or perhaps
 abbrev pub IsSleeping : State → Type 0
 IsSleeping (waking i held a k) = HoldsOwn held
 IsSleeping (asleep i held a) = HoldsOwn held
 IsSleeping _ = ⊥
 
--- the reply tells that a machine fell asleep or woke
+-- the reply says that a machine fell asleep or woke
 abbrev pub IsOfSleep : Reply → Type 0
 IsOfSleep (reply.Asleep n) = ⊤
 IsOfSleep reply.Woken = ⊤

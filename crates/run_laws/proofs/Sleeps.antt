@@ -91,7 +91,7 @@ after_asleep h v a (e ∷ es) (r ∷ rs) b has (mid, step, run) (suc j) (suc k) 
     let found = after_asleep h v mid es rs b (one_left h v a e r mid step has) run j k (omega arith) falls (later_task e es r rs k at) in
     (suc found.0, omega arith, omega arith, found.3)
 
--- Where it wakes.
+-- Where the machine wakes.
 
 is_woken : (r : Reply) → Some r ≡ Some reply.Woken → IsOfSleep r
 is_woken reply.Woken is = tt

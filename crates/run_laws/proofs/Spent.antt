@@ -10,7 +10,7 @@ abbrev pub IsResumed : Reply → Type 0
 IsResumed (reply.Resumed n) = ⊤
 IsResumed _ = ⊥
 
--- the reply ends a resume, a sleep or the way to it, or tells of a step that was made: no refusal does
+-- the reply ends a resume, a sleep or the way to it, or reports a step that was made: no refusal does
 abbrev pub GoesOn : Reply → Type 0
 GoesOn (reply.Resumed n) = ⊤
 GoesOn (reply.Asleep n) = ⊤

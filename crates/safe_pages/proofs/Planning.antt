@@ -22,7 +22,7 @@ use Rattle.safe_pages.proofs.Counting.{All-of_members, Contains-from_drop, Conta
 use Rattle.safe_pages.proofs.Reserved.{Contains-from_without, Contains-without, member_passes, stranger_fails, up_without}
 use Rattle.safe_pages.proofs.Walks.{rises}
 
--- sets over the zones, of which the free one has enough members
+-- sets over the zones, with enough members in the free one
 pub record Suffice (zones : List (ℕ × ℕ)) (origs free : List ℕ) : Type 0 where
   pub are_zones : AreZones zones
   pub origs_up : IsStrictlyIncreasing origs
@@ -83,7 +83,7 @@ length-waiting zones origs free h =
 pub bounce_is : (zones : List (ℕ × ℕ)) (origs free : List ℕ) → Suffice zones origs free → get_or (reserved origs free) (list_frames_for (length origs)) 0 ≡ get_or (without free origs) (list_frames_for (length origs)) 0
 bounce_is zones origs free h = get_or-take (list_frames_for (length origs) + 1) (without free origs) (list_frames_for (length origs)) 0 (omega arith)
 
--- Those that aren't reserved, told by the bounce frame.
+-- The page frames that aren't reserved, by the bounce frame.
 
 reserved_at_most : (zones : List (ℕ × ℕ)) (origs free : List ℕ) (p : ℕ) → Suffice zones origs free → Contains (reserved origs free) p → p ≤ get_or (reserved origs free) (list_frames_for (length origs)) 0
 reserved_at_most zones origs free p h (j, lt, is) =
@@ -221,7 +221,7 @@ bounce_at origs free list_frames bounce list_is lt at =
     same_Some bounce (get_or (without free origs) (list_frames_for (length origs)) 0)
     (sym at ∙ ap (slice_get (without free origs)) list_is ∙ slice_get-get_or (without free origs) (list_frames_for (length origs)) 0 lt)
 
--- so many are skipped that one is left for each original
+-- what is skipped leaves one page frame for each original
 pub skipped : (zones : List (ℕ × ℕ)) (origs free : List ℕ) (count have list_frames bounce : ℕ) → Suffice zones origs free → count ≡ length origs → have ≡ length free → list_frames ≡ list_frames_for count → slice_get (without free origs) list_frames ≡ Some bounce → have - (count + list_frames + 1) + length origs ≡ length (unreserved origs free bounce)
 skipped zones origs free count have list_frames bounce h count_is have_is list_is at =
     let list_frames_are = list_is ∙ ap list_frames_for count_is in

@@ -77,7 +77,7 @@ reserved_later origs rest bounce p le out =
     fails_first (λ q. ltb bounce q || list_any (nat_eq q) origs) rest p
     (or_from (ltb bounce p) (list_any (nat_eq p) origs) (le-ltb bounce p le) (stranger_fails origs p out))
 
--- Both ascend, and their numbers are below 65536.
+-- Both lists ascend, and their numbers are below 65536.
 
 pub up_without : (free origs : List ℕ) → IsStrictlyIncreasing free → IsStrictlyIncreasing (without free origs)
 unfolding without

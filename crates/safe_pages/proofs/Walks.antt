@@ -38,7 +38,7 @@ one_more_passed xs p k up passed lt = record {
   above = λ j le within. let after = rises xs k j up (omega arith) within in omega arith;
 }
 
--- the answer of a search from p on, where k numbers are passed
+-- the result of a search from p on, if k numbers are passed
 pub ahead : (xs : List ℕ) (p k : ℕ) (found : Option ℕ) → IsStrictlyIncreasing xs → HasPassed xs p k → k < length xs → found ≡ first_from xs p → found ≡ Some (get_or xs k 0)
 ahead xs p k found up passed lt is = is ∙ next_is xs p k up passed lt
 

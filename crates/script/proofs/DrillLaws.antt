@@ -1,4 +1,4 @@
--- The events of a drill: how they are put together, and what holds of all of them.
+-- The events of a drill: how they are put together, and what holds for all of them.
 use Rattle.std.proofs.Common.{◌≡◌, ◌≤◌, ◌<◌, ◌++◌, ℕ, ◌+◌, ◌-◌, ◌*◌, ◌∷◌, List, [], Option, Some, None, map, reverse, flat_map, replicate, length, refl, sym, ap, ◌∙◌, arith, suc, zero, subst, inl, inr, nat_lt, append_assoc, append-nil, map-id, All, length-append}
 use Rattle.std.specs.Bool.{⊤}
 use Rattle.std.specs.List.{range_with_len}
@@ -173,7 +173,7 @@ all_fit c few = λ k d lt. (all_good c few k d lt).0
 pub all_scripted : (c : ℕ) → c ≤ 2000 → All IsScripted (drill_events c)
 all_scripted c few = λ k d lt. (all_good c few k d lt).1
 
--- How many they are.
+-- How many events there are.
 
 three : (a b d : List Event) → length (a ++ b ++ d) ≡ length a + length b + length d
 three a b d = length-append (a ++ b) d ∙ ap (λ n. n + length d) (length-append a b)

@@ -155,7 +155,7 @@ line_here bytes text k left =
     let lt : k < length (lines_of bytes) = omega (arith, some, ap length left, length-drop k (lines_of bytes)) in
     (lt, ap (λ lines. get_or lines 0 []) left ∙ get_or-drop k (lines_of bytes) 0 [] ∙ ap (λ n. get_or (lines_of bytes) n []) (add-zero k) ∙ get_or_default (lines_of bytes) k [] (first_line text) lt)
 
--- those after it
+-- the lines after the next one
 pub lines_behind : (bytes text : List ℕ) (k : ℕ) → lines_of text ≡ drop k (lines_of bytes) → drop 1 (lines_of text) ≡ drop (k + 1) (lines_of bytes)
 lines_behind bytes text k left = ap (drop 1) left ∙ drop-drop 1 k (lines_of bytes)
 

@@ -56,7 +56,7 @@ pub texts-split : (words : List (Bor (List ℕ))) (d : Bor (List ℕ)) → 1 ≤
 texts-split [] d some = absurd (omega arith)
 texts-split (word ∷ words) d some = ap (λ rest. word.now ∷ texts rest) (sym (take_all (suc (length words) - 1) words (omega arith)))
 
--- the same two, for words wherever they lie
+-- the first word and those after it, wherever the words lie
 pub with_front-more : (spans : List Span) (words : List (Bor (List ℕ))) (ns : List ℕ) (i n : ℕ) (s : Span) (d : Bor (List ℕ)) → i < length spans → i < length words → length ns ≡ length spans → number_in (get_or spans i s) (get_or words i d).now ≡ Ok n → with_front (take (i + 1) (set ns i n)) (numbers_in (drop (i + 1) spans) (drop (i + 1) (texts words))) ≡ with_front (take i ns) (numbers_in (drop i spans) (drop i (texts words)))
 with_front-more spans words ns i n s d in_spans in_words len e =
     let at = get_or-map (λ word. word.now) words i d (get_or words i d).now in_words in

@@ -32,7 +32,7 @@ no_word_more rs x t is none =
       same : filter_map word_in (rs ++ x ∷ []) ≡ filter_map word_in rs
       same = filter_map-append word_in rs (x ∷ []) ∙ ap (λ (o : Option ℕ). filter_map word_in rs ++ filter_map (λ y. y) (o ∷ [])) none ∙ append-nil (filter_map word_in rs)
 
--- one that shows a word
+-- a reply that shows a word
 pub word_more : (rs : List Reply) (x : Reply) (v : ℕ) (t : Tally) → t ≡ tally_of rs → word_in x ≡ Some v →
     tally (t.events + 1) (t.hibernated + cond (is_hibernated x) 1 0) (t.resumed + cond (is_resumed x) 1 0) (t.words + 1) ((t.sum + v) % 18446744073709551616) ≡ tally_of (rs ++ x ∷ [])
 unfolding tally_of

@@ -4,7 +4,7 @@ use Rattle.sector_disk.specs.Called.{Called}
 use Rattle.sector_disk.specs.declared.disk.Disk.{Ghosts}
 use Rattle.sector_disk.proofs.Time.{still}
 
--- a disk of which no call was made
+-- a disk on which no call was made
 pub uncalled : {X : Type 0} (D : Ghosts X) (made : ℕ → ℕ → Type 0) (fails : Type 0) (d : X) → made (D.calls d) (D.calls d) → (fails → ⊥) → Called D made fails d d
 uncalled D made fails d none faultless =
     let same : D.faults d ≤ D.faults d = omega arith in

@@ -109,7 +109,7 @@ pub on_err : {T E P : Type 0} (r : Result T E) → P → OnErr r P
 on_err (Ok v) p = tt
 on_err (Err e) p = p
 
--- the same of what is kept
+-- a sync and a restart, by the sectors that are kept
 pub syncs_kept : (durable live kept : DiskImage) → length durable ≡ length live → kept ≡ live → Syncs (content_of durable live) (content_of kept live)
 syncs_kept durable live kept n k =
     ap (λ (xs : DiskImage). content_of xs live) k ∙ content_of-settled live ∙ ap settled (sym (as_it_reads-content_of durable live n))

@@ -1,4 +1,4 @@
--- Sectors of which the first are kept and the others are zeros.
+-- Sectors that begin with the kept ones and go on with zeros.
 use Rattle.std.proofs.Common.{◌≡◌, ℕ, Bool, true, false, cond, All, ◌+◌, ◌-◌, ◌*◌, ◌<◌, ◌≤◌, List, [], ◌++◌, length, get_or, take, drop, length-drop, replicate, refl, sym, ap, ◌∙◌, inl, inr, subst, arith}
 use Rattle.std.specs.List.{concat}
 use Rattle.std.proofs.lemmas.List.{append_assoc, append-nil, length-append, length-replicate, replicate-append-replicate, get_or_append_left, get_or-append_right, take-append-le, drop-append-le, length-take-le, get_or-take, get_or-drop, get_or-replicate, ext_get_or}
@@ -19,7 +19,7 @@ pub get_or-padded : (count : ℕ) (kept : DiskImage) (s : ℕ) → s < length ke
 unfolding padded
 get_or-padded count kept s lt = get_or_append_left kept (replicate (count - length kept) zero_sector) [] s lt
 
--- one that isn't
+-- a sector that isn't kept
 pub get_or-beyond : (count : ℕ) (kept : DiskImage) (s : ℕ) → length kept ≤ s → get_or (padded count kept) s [] ≡ get_or (replicate (count - length kept) zero_sector) (s - length kept) []
 unfolding padded
 get_or-beyond count kept s le = get_or-append_right kept (replicate (count - length kept) zero_sector) (length kept) s [] refl le

@@ -155,7 +155,7 @@ kept_new start durable live d l = record {
   durable_is = d ∙ sym (as_synced-settled start);
 }
 
--- The same, where slices were lent: `seen` is what they held, and `kept` is what the vectors hold then.
+-- What is kept if slices were lent: `seen` is what they held, and `kept` is what the vectors hold then.
 pub kept_lent : (blocks : ℕ) (start : DiskImage) (log : List Recorded) (seen_durable seen_live durable live kept_durable kept_live : DiskImage) → AreSectors (8 * blocks) start → All (λ q. page_size q ≡ 4096) log →
     seen_durable ≡ start → seen_live ≡ start → kept_durable ≡ durable → kept_live ≡ live →
     ((n : ℕ) (c : Content) → IsContent n c → All (λ q. page_size q ≡ 4096) log → AreKept c seen_durable seen_live → AreKept (fold after c log) durable live) → AreKept (held_after start log) kept_durable kept_live

@@ -10,7 +10,7 @@ use borrow.Rule.Slice.PartMut.{put_mid}
 use Rattle.definitions.specs.Disk.{DiskImage, sector_bytes}
 use Rattle.sector_disk.specs.Sectors.{SameOutsideRange, IsPickedFrom, picks, TakesPage, TakesPicked}
 
--- where the range is empty, they are the same
+-- if the range is empty, the durable and the live sectors are the same
 pub same_everywhere : (low high : ℕ) (durable live : DiskImage) → length durable ≡ length live → SameOutsideRange low high durable live → high ≤ low → durable ≡ live
 same_everywhere low high durable live n outside le = ext_get_or [] durable live n (λ s lt. grind (arith, outside.below s, outside.above s))
 
@@ -25,7 +25,7 @@ pub put_back : (low high : ℕ) (live : DiskImage) → low < high → high ≤ l
 put_back low high live lt le =
     ext_get_or [] (put_mid low (high - low) live (take (high - low) (drop low live))) live (grind (arith, common_steps, places)) (λ s below. grind (arith, places))
 
--- where a run is put into both, they are the same
+-- if the picked run is put into both, the durable and the live sectors are the same
 pub same_both_put : (low high : ℕ) (durable live ys zs : DiskImage) → length durable ≡ length live → SameOutsideRange low high durable live → low < high → high ≤ length live → length ys ≡ high - low →
     zs ≡ take (high - low) (drop low (put_mid low (high - low) durable ys)) → put_mid low (high - low) durable ys ≡ put_mid low (high - low) live zs
 same_both_put low high durable live ys zs n outside lt le m e =

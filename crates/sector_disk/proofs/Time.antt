@@ -21,6 +21,6 @@ inside m m' past since None (Some new) v elapses only left = elapses
 inside m m' past since (Some old) None v elapses only left = elapses
 inside m m' past since (Some old) (Some new) v elapses only left = mixed m m' past since old new v elapses only left
 
--- the same where no call was made
+-- what a crash might have left if no call was made
 pub unread : (m : ℕ) (since : ℕ → DiskImage → Type 0) (o : Option Content) (v : DiskImage) → (since m v → IfSome o (λ held. IsImage held v)) → since m v → Changes (λ old new. IsMixture old new v) o o
 unread m since o v only left = inside m m since since o o v (still m since o) only left

@@ -1,19 +1,19 @@
--- What one call of a disk leaves, or at most one, over the meanings of the trait (src/disk.rt). It has no counterpart
+-- What one call of a disk leaves, or at most one, in terms of the trait's meanings (src/disk.rt). It has no counterpart
 -- in Linux.
 use Rattle.std.specs.Prelude.{◌≡◌, ◌≤◌, ◌⊎◌, ℕ, IsTrue}
 use Rattle.definitions.specs.Disk.{Changes, Elapses, HasRisen, raised}
 use Rattle.sector_disk.specs.declared.disk.Disk.{Ghosts}
 
--- how many reads, writes and syncs there were
+-- one read, write or sync was made; at most one
 abbrev pub OneCall : ℕ → ℕ → Type 0
 OneCall before after = after ≡ raised before
 
 abbrev pub AtMostOneCall : ℕ → ℕ → Type 0
 AtMostOneCall before after = (after ≡ before) ⊎ (after ≡ raised before)
 
--- Reads, writes and syncs were made, but no restart or arm. If the operation fails because a call did, that is a
--- failure of the disk. The disk keeps its size and tells what it told. If it tells moments, the clock doesn't fall, and
--- what a cut may leave now it may have left since `before`.
+-- Reads, writes and syncs were made, but no restart or arm. If the operation fails because a call did, the disk has
+-- counted a failure. The disk keeps its size and still tells what it told. If it tells moments, the clock doesn't fall,
+-- and what a cut may leave now it may have left since `before`.
 pub record Called {X : Type 0} (D : Ghosts X) (made : ℕ → ℕ → Type 0) (fails : Type 0) (before after : X) : Type 0 where
   pub cause : fails → HasRisen (D.faults before) (D.faults after)
   pub faults : D.faults before ≤ D.faults after

@@ -8,7 +8,7 @@ use Rattle.std.specs.Str.{bytes_eq}
 use Rattle.definitions.specs.Disk.{Sector, DiskImage, IsSector, IsContent}
 use Rattle.sector_disk.specs.Sectors.{zero_sector, padded, candidates_of, content_of, AreSectors}
 
--- padding gives `count` sectors of 512 bytes, if those that are kept are such
+-- padding gives `count` sectors of 512 bytes, if the sectors that are kept have 512 bytes
 pub length-padded : (count : ℕ) (kept : DiskImage) → length kept ≤ count → length (padded count kept) ≡ count
 unfolding padded
 length-padded count kept le =
@@ -59,7 +59,7 @@ pub candidates_of-durable : (d l : List ℕ) → Contains (candidates_of d l) d
 unfolding candidates_of
 candidates_of-durable d l = has_durable (bytes_eq d l) d l (λ e. (bytes_eq-Decides d l).0 e)
 
--- where they are the same there is one
+-- if the durable and the live bytes are the same, they are the one candidate
 pub candidates_of-same : (l : List ℕ) → candidates_of l l ≡ l ∷ []
 unfolding candidates_of
 candidates_of-same l = rw ((bytes_eq-Decides l l).1 refl) refl

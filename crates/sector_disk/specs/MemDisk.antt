@@ -7,7 +7,7 @@ use Rattle.sector_disk.specs.Sectors.{content_of, padded}
 use Rattle.sector_disk.specs.declared.mem_disk.MemDisk.{MemDisk}
 use Rattle.sector_disk.specs.declared.orders.Order.{Order}
 
--- how many blocks it has
+-- how many blocks the disk has
 abbrev pub block_count : MemDisk → ℕ
 block_count d = d.blocks
 
@@ -19,7 +19,7 @@ fault_count d = d.calls.faults
 abbrev pub call_count : MemDisk → ℕ
 call_count d = d.calls.made
 
--- the restarts and arms that it was asked for
+-- the restarts and arms that the disk was asked for
 abbrev pub orders_got : MemDisk → List Order
 orders_got d = d.orders.list
 
@@ -31,7 +31,7 @@ durable_sectors d = padded (8 * d.blocks) d.durable.items
 abbrev pub live_sectors : MemDisk → DiskImage
 live_sectors d = padded (8 * d.blocks) d.live.items
 
--- its content
+-- the content of the disk
 abbrev pub content : MemDisk → Content
 content d = content_of (durable_sectors d) (live_sectors d)
 
@@ -39,11 +39,11 @@ content d = content_of (durable_sectors d) (live_sectors d)
 abbrev pub IsArmed : MemDisk → ℕ → Type 0
 IsArmed d k = IsDue d.calls k
 
--- the pick of the sectors that a write takes where it fails
+-- the pick of the sectors that a write takes if it fails
 abbrev pub armed_pick : MemDisk → ℕ
 armed_pick d = d.calls.pick
 
--- A read, a write or a sync: it fails exactly where it is armed, and the armed calls are one nearer.
+-- A read, a write or a sync: it fails exactly if it is armed, and the armed calls move up by one.
 pub record IsCalled {T E : Type 0} (old new : MemDisk) (result : Result T E) : Type 0 where
   pub fails : IsErr result ↔ IsArmed old 1
   pub later : (k : ℕ) → 0 < k → IsArmed new k ↔ IsArmed old (k + 1)
@@ -55,8 +55,8 @@ pub record IsCalled {T E : Type 0} (old new : MemDisk) (result : Result T E) : T
   pub orders : orders_got new ≡ orders_got old
   pub blocks : block_count new ≡ block_count old
 
--- A read, a write or a sync that fails, whether or not it is armed: it is a fault, the armed calls are one nearer, and
--- every sector is as before.
+-- A read, a write or a sync that fails, whether or not it is armed: it counts as a fault, the armed calls move up by
+-- one, and every sector is as before.
 pub record IsRefused (old new : MemDisk) : Type 0 where
   pub later : (k : ℕ) → 0 < k → IsArmed new k ↔ IsArmed old (k + 1)
   pub pick : armed_pick new ≡ armed_pick old
@@ -80,7 +80,7 @@ pub record IsOrdered (order : Order) (old new : MemDisk) : Type 0 where
   pub faults : fault_count new ≡ fault_count old
   pub blocks : block_count new ≡ block_count old
 
--- a disk as it is made: zeros, nothing counted and nothing armed
+-- a new disk: zeros, nothing counted and nothing armed
 pub record IsNew (blocks : ℕ) (d : MemDisk) : Type 0 where
   pub blocks_are : block_count d ≡ blocks
   pub durable : durable_sectors d ≡ replicate (8 * blocks) (replicate 512 0)

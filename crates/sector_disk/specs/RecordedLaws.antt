@@ -100,7 +100,7 @@ written-FailsToWrite takes b page c le = record {
       (sector (written takes b page c) (8 * b + j)) (written-within takes b page c j le lt);
 }
 
--- What a disk of `blocks` blocks holds after any calls.
+-- What a disk with `blocks` blocks holds after any calls.
 
 IsSector-with_live : (bytes : List ℕ) (x : Sector) → length bytes ≡ 512 → IsSector x → IsSector (with_live bytes x)
 IsSector-with_live bytes x size whole = record {

@@ -9,7 +9,7 @@ use Rattle.definitions.specs.Disk.{Content, DiskImage, sector_bytes}
 abbrev pub zero_sector : List ℕ
 zero_sector = replicate 512 0
 
--- the given number of sectors, of which these are the first and the others are zeros
+-- `count` sectors: first the kept ones, then zeros
 unfoldable pub padded : ℕ → DiskImage → DiskImage
 padded count kept = kept ++ replicate (count - length kept) zero_sector
 
@@ -25,17 +25,17 @@ content_of durable live = []
 abbrev pub picks : ℕ → ℕ → Bool
 picks pick s = bit_at pick (s % 64) == 1
 
--- the sectors of new that are picked, and the others of old, in a run of sectors whose first has this number
+-- the picked sectors of new and the others of old, in a run of sectors whose first has the number `first`
 pub record IsPickedFrom (first pick : ℕ) (old new image : DiskImage) : Type 0 where
   pub size : length image ≡ length old
   pub each : (s : ℕ) → s < length image →
       slice_index_or image s [] ≡ (if picks pick (first + s) then slice_index_or new s [] else slice_index_or old s [])
 
--- the sectors of new that are picked, and the others of old
+-- the picked sectors of new and the others of old
 abbrev pub IsPicked : ℕ → DiskImage → DiskImage → DiskImage → Type 0
 IsPicked pick old new image = IsPickedFrom 0 pick old new image
 
--- the sectors of block b that are picked have their bytes of the page, the others are as before
+-- the picked sectors of block b have their bytes of the page, the others are as before
 abbrev pub TakesPicked : ℕ → ℕ → List ℕ → DiskImage → DiskImage → Type 0
 TakesPicked pick b page old new =
     (j : ℕ) → j < 8 →
@@ -46,7 +46,7 @@ TakesPicked pick b page old new =
 abbrev pub TakesPage : ℕ → List ℕ → DiskImage → Type 0
 TakesPage b page new = (j : ℕ) → j < 8 → slice_index_or new (8 * b + j) [] ≡ sector_bytes page j
 
--- each sector of the other blocks is as before
+-- each sector outside block b is as before
 pub record SameOutsideBlock (b : ℕ) (old new : DiskImage) : Type 0 where
   pub size : length new ≡ length old
   pub below : (s : ℕ) → s < 8 * b → slice_index_or new s [] ≡ slice_index_or old s []

@@ -17,7 +17,7 @@ pub struct Calls {
 }
 
 impl Calls {
-    /// No call was made, and none is to fail.
+    /// Returns the state in which no call was made and none is to fail.
     pub fn none() -> Calls
         ensures made { result.made ≡ 0 }
         ensures faults { result.faults ≡ 0 }
@@ -32,7 +32,7 @@ impl Calls {
         }
     }
 
-    /// Lets the calls number `first` to `first + count - 1` from now fail, and no others.
+    /// Makes the calls number `first` to `first + count - 1` from now fail, and no others.
     pub fn arm(&mut self, first: u32, count: u32, pick: u64)
         ensures due { (k : ℕ) → 0 < k → (IsDue self.new k ↔ ((first ≤ k) × (k < first + count))) }
         ensures pick { self.new.pick ≡ pick }
@@ -49,7 +49,7 @@ impl Calls {
         self.pick = pick;
     }
 
-    /// Counts a call, and lets it fail where that is due.
+    /// Counts a call, and fails if the call is due to fail.
     pub fn take_turn(&mut self) -> Result<(), Failed>
         ensures turn { TakesTurn self.old self.new result }
         ensures faults { self.old.faults ≤ self.new.faults }
@@ -67,7 +67,7 @@ impl Calls {
         Ok(())
     }
 
-    /// Counts a call that fails, whether or not that is due.
+    /// Counts a call that fails, whether or not it was due to fail.
     pub fn lose_turn(&mut self)
         ensures turn { LosesTurn self.old self.new }
         ensures faults { self.old.faults ≤ self.new.faults }

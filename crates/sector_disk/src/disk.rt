@@ -12,14 +12,14 @@ use page_core::{Failed, Page};
 ///
 /// A read, a write and a sync may fail at any place. Each failure is counted.
 ///
-/// A disk may tell its content: for each sector its candidates, one of which is live, the one that a read gives.
-/// It may then also tell moments: a clock, and what a power cut since a moment might have left. A disk that tells
-/// neither, such as a real one, has only the clauses on blocks and counts.
+/// A disk may tell its content: for each sector its candidates, one of which is live: a read gives that one. It may
+/// then also tell moments: a clock, and what a power cut since a moment might have left. A disk that tells neither,
+/// such as a real one, has only the clauses on blocks and counts.
 pub trait Disk {
     /// How many blocks the disk has.
     ghost block_count: { Self → ℕ };
 
-    /// How often a call has failed. It never falls.
+    /// How many calls have failed. The count never falls.
     ghost faults: { Self → ℕ };
 
     /// How many reads, writes and syncs there were.
@@ -40,7 +40,7 @@ pub trait Disk {
     /// The images that a power cut at some moment from the given one on might have left, during a call or between two.
     ghost left_since: { Self → ℕ → DiskImage → Type 0 };
 
-    /// How many blocks the disk has.
+    /// Returns how many blocks the disk has.
     fn blocks(&self) -> u32
         ensures { result ≡ block_count self.now };
 
@@ -51,7 +51,7 @@ pub trait Disk {
         ensures bytes { OnOk result (IfSome (content self.old) (λ held. into.new ≡ block (as_it_reads held) b)) }
         ensures content { content self.new ≡ content self.old }
 
-        // A failure is one of the disk.
+        // A failure is the disk's, and is counted.
         ensures cause { OnErr result (HasRisen (faults self.old) (faults self.new)) }
         ensures faults { faults self.old ≤ faults self.new }
 
@@ -80,7 +80,7 @@ pub trait Disk {
         ensures time { IsTrue (tells_moments self.old) → Changes (Elapses (moment self.old) (moment self.new)
             (left_since self.old) (left_since self.new)) (content self.old) (content self.new) };
 
-    /// Makes what a read gives the one content that a power cut may leave.
+    /// Makes what a read gives the only content that a power cut may leave.
     fn sync(&mut self) -> Result<(), Failed>
         ensures synced { OnOk result (Changes Syncs (content self.old) (content self.new)) }
         ensures failed { OnErr result (content self.new ≡ content self.old) }
@@ -95,8 +95,8 @@ pub trait Disk {
         ensures time { IsTrue (tells_moments self.old) → Changes (Elapses (moment self.old) (moment self.new)
             (left_since self.old) (left_since self.new)) (content self.old) (content self.new) };
 
-    /// A power cut: one image of the disk is from now on the only one. `pick` chooses which, where the disk
-    /// lets it. The clock begins anew.
+    /// Cuts the power: one image of the disk is its only image from now on. `pick` chooses which, if the disk supports
+    /// that. The clock begins anew.
     fn restart(&mut self, pick: u64)
         ensures restarted { Changes Restarts (content self.old) (content self.new) }
 
@@ -107,8 +107,8 @@ pub trait Disk {
         ensures telling { tells_moments self.new ≡ tells_moments self.old }
         ensures time { IsTrue (tells_moments self.old) → moment self.new ≡ 0 };
 
-    /// Asks the disk to let the calls number `first` to `first + count - 1` from now fail, where it can. `pick`
-    /// chooses what a write that fails so leaves.
+    /// Asks the disk to make the calls number `first` to `first + count - 1` from now fail, if it can. `pick` chooses
+    /// what a write that fails in this way leaves.
     fn arm(&mut self, first: u32, count: u32, pick: u64)
         ensures content { content self.new ≡ content self.old }
 

@@ -13,19 +13,19 @@ use page_core::{Failed, NoMemory, Page};
 use std::alloc::Global;
 
 /// A disk in memory. For each sector it has the durable bytes, which the last sync left, and the live ones. A restart
-/// takes the one or the other of each sector, as its pick says.
+/// keeps one or the other for each sector, as its pick says.
 ///
-/// It begins as zeros, and keeps the blocks up to the last one that was written: memory for all is taken when it is
-/// made, and what lies past that block isn't touched.
+/// The disk begins as zeros. Memory for all blocks is allocated when it is made, but filled only up to the last block
+/// that was written. Memory past that block isn't touched.
 ///
 /// It tells its content and no moments.
 #[derive(Drop)]
 pub struct MemDisk {
     blocks: u32,
-    // The first sectors, as many of both. The others are zeros in both.
+    // The first sectors, the same number of both. The others are zeros in both.
     durable: Vec<Sector>,
     live: Vec<Sector>,
-    // The sectors that may differ: the first that was written since the last sync, and the end of the last.
+    // The range of sectors that may differ: from the first one written since the last sync to the end of the last one.
     low: usize,
     high: usize,
     calls: Calls,
@@ -46,7 +46,7 @@ impl MemDisk {
     ghost use Rattle.sector_disk.specs.MemDisk.{IsNew, IsRefused, KeepsArmed, block_count, call_count, fault_count};
     ghost use Rattle.sector_disk.specs.MemDisk.{orders_got, armed_pick, durable_sectors, live_sectors};
 
-    /// A disk of zeros.
+    /// Creates a disk of zeros with `blocks` blocks.
     pub fn create(alloc: Global, blocks: u32) -> Result<MemDisk, NoMemory>
         ensures { IfOk result (IsNew blocks) }
     {
@@ -64,23 +64,23 @@ impl MemDisk {
         })
     }
 
-    /// Counts a read, a write or a sync that fails, whether or not it is armed, and leaves every sector. A disk built
-    /// on top of this one thus reports that it can't serve a call.
+    /// Counts a read, a write or a sync that fails, whether or not it is armed, and changes no sector. A disk built on
+    /// top of this one reports in this way a call that it can't serve.
     pub fn refuse(&mut self)
         ensures refused { IsRefused self.old self.new }
     {
         self.calls.lose_turn();
     }
 
-    /// The pick of the sectors that a write takes where it fails.
+    /// Returns the pick of the sectors that a write takes if it fails.
     pub fn armed_pick(&self) -> u64
         ensures pick { result ≡ armed_pick self.now }
     {
         self.calls.pick
     }
 
-    /// Takes the sectors of a disk that began with `start` and made the calls of `log`. Nothing is counted, and the
-    /// same calls stay armed.
+    /// Sets the sectors to those of a disk that began with `start` and took the calls of `log`. Nothing is counted, and
+    /// the same calls stay armed.
     pub fn replay(&mut self, start: &[Sector], log: &[Recorded])
         requires start { AreSectors (8 * block_count self.old) start.now }
         requires inside { All (λ r. blocks_needed r ≤ block_count self.old) log.now }
@@ -109,7 +109,7 @@ impl MemDisk {
         copy_first(&self.live, into);
     }
 
-    /// Keeps at least `end` sectors. Those that it didn't keep so far are zeros.
+    /// Extends the kept sectors to at least `end`. Those that are added are zeros.
     fn keep_up_to(&mut self, end: usize)
         requires inside { end ≤ 8 * block_count self.old }
         requires whole { end % 8 ≡ 0 }

@@ -1,5 +1,5 @@
-//! What a disk was asked for beside its reads, writes and syncs. Only proofs read it: it takes no memory, and its calls
-//! do nothing when they run.
+//! What a disk was asked for besides its reads, writes and syncs. Only proofs read this list: it takes no memory, and
+//! its functions do nothing at run time.
 ghost use Rattle.std.specs.Prelude.{◌≡◌, List, [], ◌∷◌, ◌++◌};
 ghost use base.Fml.{ftrue};
 ghost use Rattle.sector_disk.specs.declared.orders.Order.{Order};
@@ -11,12 +11,12 @@ use std::marker::Model;
 pub enum Order {
     /// A power cut, after which the image that `pick` chooses is the only one.
     Restart { pick: u64 },
-    /// The calls number `first` to `first + count - 1` from then on fail. `pick` chooses what a write that fails so
-    /// leaves.
+    /// The calls number `first` to `first + count - 1` from then on fail. `pick` chooses what a write that fails in
+    /// this way leaves.
     Arm { first: u32, count: u32, pick: u64 },
 }
 
-/// The orders that a disk has got, in their order.
+/// The orders given to a disk, first to last.
 #[derive(Drop)]
 pub struct Orders {
     pub ghost list: { List Order },

@@ -6,12 +6,12 @@ ghost use Rattle.sector_disk.specs.Recorded.{AreKept, after, page_size, blocks_n
 use crate::sectors::{Sector, write_block, write_picked};
 use page_core::Page;
 
-/// A write or a sync of a disk, as it is recorded.
+/// A recorded write or sync of a disk.
 #[derive(Drop)]
 pub enum Recorded {
     /// A write of a page to a block.
     Write(u32, Page),
-    /// A write of a page to a block that failed, and the pick of the sectors that it took.
+    /// A failed write of a page to a block, and the pick of the sectors that it took.
     FailedWrite(u32, Page, u64),
     Sync,
     /// A sync that failed. It did nothing.
@@ -19,7 +19,7 @@ pub enum Recorded {
 }
 
 impl Recorded {
-    /// Does what the call did, to the durable and the live sectors of a disk.
+    /// Repeats the call on the durable and the live sectors of a disk.
     pub fn redo(&self, durable: &mut [Sector], live: &mut [Sector])
         requires same_length { length durable.old ≡ length live.old }
         requires inside { 8 * blocks_needed self.now ≤ length live.old }
@@ -35,7 +35,7 @@ impl Recorded {
     }
 }
 
-/// Does what the calls did, one after the other, to the durable and the live sectors of a disk.
+/// Repeats the calls, one after the other, on the durable and the live sectors of a disk.
 pub fn redo_all(log: &[Recorded], durable: &mut [Sector], live: &mut [Sector])
     requires same_length { length durable.old ≡ length live.old }
     requires inside { All (λ r. 8 * blocks_needed r ≤ length live.old) log.now }

@@ -18,7 +18,7 @@ pub const SECTORS_IN_BLOCK: usize = 8;
 /// The sectors of a block of zeros.
 pub const ZEROS: [Sector; SECTORS_IN_BLOCK] = [[0; SECTOR_SIZE]; SECTORS_IN_BLOCK];
 
-/// Returns room for `count` sectors. The memory is taken and not touched.
+/// Returns room for `count` sectors. The memory is allocated but not touched.
 pub fn room_for(alloc: Global, count: usize) -> Result<Vec<Sector>, NoMemory>
     ensures empty { IfOk result (λ sectors. sectors.items ≡ []) }
     ensures room { IfOk result (λ sectors. count ≤ vec_capacity sectors) }
@@ -40,7 +40,7 @@ pub fn fill_up(sectors: &mut Vec<Sector>, end: usize)
     }
 }
 
-/// Copies the first sectors, and fills the others with zeros.
+/// Copies `from` into the first sectors of `into`, and fills the others with zeros.
 pub fn copy_first(from: &[Sector], into: &mut [Sector])
     requires { length from.now ≤ length into.old }
     ensures { into.new ≡ padded (length into.old) from.now }
@@ -59,7 +59,7 @@ pub fn read_block(sectors: &[Sector], into: &mut Page)
     into.copy_from_slice(sectors.as_flattened());
 }
 
-/// The sectors of a page.
+/// Returns the sectors of a page.
 pub fn sectors_of(page: &Page) -> &[Sector]
     ensures sectors { result.now ≡ first_chunks 512 8 page.now }
     ensures whole { All (λ bytes. length bytes ≡ 512) result.now }
@@ -108,7 +108,7 @@ pub fn write_picked(sectors: &mut [Sector], b: usize, page: &Page, pick: u64)
     );
 }
 
-/// Makes the live sectors durable. Outside the range they are already.
+/// Makes the live sectors durable. Outside the range from `low` to `high` they are durable already.
 pub fn sync_sectors(durable: &mut [Sector], live: &[Sector], low: usize, high: usize)
     requires same_length { length durable.old ≡ length live.now }
     requires in_range { high ≤ length live.now }
@@ -120,8 +120,8 @@ pub fn sync_sectors(durable: &mut [Sector], live: &[Sector], low: usize, high: u
     }
 }
 
-/// Takes the live sectors that are picked, and of the others the durable ones, and makes both so. Outside the
-/// range they are the same.
+/// Takes the live bytes of the picked sectors and the durable bytes of the others, and makes them both live and
+/// durable. Outside the range from `low` to `high` the two are the same already.
 pub fn restart_sectors(
     durable: &mut [Sector],
     live: &mut [Sector],

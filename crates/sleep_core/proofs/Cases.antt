@@ -4,7 +4,7 @@ use Rattle.plain_machine.specs.Image.{Image}
 use Rattle.plain_machine.specs.State.{State, off, on, booting, hibernating, undoing, settling, waking, loading, asleep, Running, Held}
 use Rattle.plain_machine.specs.Shows.{Activity, rests, runs, boots, hibernates, undoes, settles, wakes, loads, sleeps, activity_in}
 
--- What tells activities apart.
+-- What distinguishes activities.
 abbrev rank : Activity → ℕ
 rank rests = 0
 rank runs = 1

@@ -40,7 +40,7 @@ use Rattle.protocol_laws.proofs.Same.{same_area}
 abbrev pub IsStepRow : Machine → Memory → Waker → rows.StandsBy → Reply → disk.Content → disk.Content → Type 0
 IsStepRow machine frames waker new r c c' = rows.Simulates machine.hw (WakingStandsFor machine frames waker) new (event.Step actor.Core) r c c'
 
--- it is that of the machine and the page frames that the caller leaves
+-- the row is that of the machine and the page frames that the caller leaves
 pub as_left : (machine : Machine) (frames : Memory) (waker : Waker) (new : Machine → Memory → rows.StandsBy) (last machine' : Machine) (left frames' : Memory) (r : Reply) (c c' : disk.Content) → machine' ≡ last → frames' ≡ left →
     IsStepRow machine frames waker (new last left) r c c' → IsStepRow machine frames waker (new machine' frames') r c c'
 as_left machine frames waker new last machine' left frames' r c c' same kept row =

@@ -9,7 +9,7 @@ use Rattle.stream_check.specs.Grammar.{image_pages, all_pages, place, number, wo
 use Rattle.stream_check.specs.Faults.{HasCounts, HasWord, HasFault, IsFirst, HasNoFault, StaysFirst}
 use Rattle.stream_check.proofs.Steps.{sound_from, counts_from, counts_none, first_fault-early, first_fault-late, first_fault-stays, or_else-some, or_else-parts, true_at_some}
 
--- where a first answer stands
+-- the place of the first result
 pub record IsPlace {A : Type 0} (f : ℕ → Option A) (n : ℕ) (x : A) (j : ℕ) : Type 0 where
   pub within : j < n
   pub there : f j ≡ Some x
@@ -159,7 +159,7 @@ only_counts bs End at wrong h = absurd (wrong h.0.counts)
 only_counts bs Extra at wrong h = absurd (wrong h.0.counts)
 only_counts bs Short at wrong h = absurd h
 
--- The first one.
+-- The first fault.
 
 counts_first : (bs : List ℕ) (x : StreamFault) → 4096 ≤ length bs → counts_fault (image_pages bs) (all_pages bs) ≡ Some x → IsFirst bs x
 counts_first bs x h found =
@@ -224,6 +224,6 @@ has_no_fault bs none kind at h =
       | inr (e, lt) ↦ omega (arith, s.within)
     ]
 
--- and it stays the first, whatever bytes come after
+-- the first fault stays the first, whatever bytes come after
 pub stays_first : (bs : List ℕ) → StaysFirst bs
 stays_first bs fault more found = first_fault-stays bs more fault found

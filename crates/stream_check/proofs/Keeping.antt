@@ -13,7 +13,7 @@ early_end bs t read h = read.numbers_end ∙ cond-true (ltb (length bs) 4096) 40
 pub late_end : (bs : List ℕ) (t : Taking) → HasRead bs t → 4096 ≤ length bs → t.numbers_end ≡ place (image_pages bs + 1)
 late_end bs t read h = read.numbers_end ∙ cond-false (ltb (length bs) 4096) 4096 (place (image_pages bs + 1)) (le-ltb (length bs) 4096 h)
 
--- it speaks of neither the count of the bytes nor of the word that has begun
+-- what is kept speaks of neither the count of the bytes nor of the word that has begun
 pub moved : (bs : List ℕ) (t : Taking) (taken : ℕ) (word : List ℕ) → HasRead bs t → HasRead bs (record t { taken = taken; word = word })
 moved bs t taken word read = record {
   sound = read.sound;

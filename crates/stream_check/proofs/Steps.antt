@@ -34,7 +34,7 @@ word_fault-append bs more j h =
     ap (fault_at (place j)) (ap (λ m. kind_of_word m j (least_number (bs ++ more) j) (number (bs ++ more) j)) n
     ∙ ap₂ (kind_of_word (image_pages bs) j) least v)
 
--- The first of some answers.
+-- The first result among some.
 
 pub first_below-same : {A : Type 0} (f g : ℕ → Option A) (n : ℕ) → ((j : ℕ) → j < n → f j ≡ g j) → first_below f n ≡ first_below g n
 first_below-same f g zero same = refl
@@ -136,7 +136,7 @@ first_fault-append bs more h none =
 pub length-byte : (bs : List ℕ) (b : ℕ) → length (bs ++ b ∷ []) ≡ length bs + 1
 length-byte bs b = length-append bs (b ∷ [])
 
--- the info page is whole with it
+-- the info page is whole with the next byte
 pub first_fault-info : (bs : List ℕ) (b : ℕ) → length bs + 1 ≡ 4096 → first_fault (bs ++ b ∷ []) ≡ counts_fault (image_pages bs) (all_pages bs)
 first_fault-info bs b whole =
     let bs' = bs ++ b ∷ [] in
@@ -163,7 +163,7 @@ within_numbers bs b h none early =
     let s = sound_from bs h none in
     extra_fault-none (bs ++ b ∷ []) (omega (arith, length-byte bs b, s.are.all, s.are.some, all_pages-append bs (b ∷ []) (omega arith)))
 
--- it ends no word
+-- a byte that ends no word
 pub first_fault-within : (bs : List ℕ) (b : ℕ) → 4096 ≤ length bs → first_fault bs ≡ None → length bs < place (image_pages bs + 1) → (length bs + 1) % 8 ≢ 0 → first_fault (bs ++ b ∷ []) ≡ None
 first_fault-within bs b h none early part =
     let s = sound_from bs h none in
@@ -173,7 +173,7 @@ first_fault-within bs b h none early part =
     ∙ numbers-append bs (b ∷ []) (min (image_pages bs + 1) (words bs)) (omega arith) h ∙ s.numbers)
     (within_numbers bs b h none early)
 
--- it ends a word
+-- a byte that ends a word
 pub first_fault-word : (bs : List ℕ) (b : ℕ) → 4096 ≤ length bs → first_fault bs ≡ None → length bs < place (image_pages bs + 1) → (length bs + 1) % 8 ≡ 0 → first_fault (bs ++ b ∷ []) ≡ word_fault (bs ++ b ∷ []) (words bs)
 first_fault-word bs b h none early whole =
     let s = sound_from bs h none in

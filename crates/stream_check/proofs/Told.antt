@@ -7,7 +7,7 @@ refused r o e r_is o_is f = (λ is. cc, λ is. cc)
 pub passed : {A E : Type 0} (r : Result A E) (o : Option E) (x : A) → r ≡ Ok x → o ≡ None → (f : E) → (r ≡ Err f) ↔ (o ≡ Some f)
 passed r o x r_is o_is f = (λ is. cc, λ is. cc)
 
--- where a result that isn't refused tells the fault, there is none
+-- if a result reports the fault and isn't refused, there is no fault
 pub none_from : {A E : Type 0} (r : Result A E) (o : Option E) (x : A) → r ≡ Ok x → ((f : E) → (r ≡ Err f) ↔ (o ≡ Some f)) → o ≡ None
 none_from r None x is told = refl
 none_from r (Some e) x is told = let no : r ≡ Err e = (told e).1 refl in cc
@@ -16,7 +16,7 @@ none_from r (Some e) x is told = let no : r ≡ Err e = (told e).1 refl in cc
 pub some_from : {A E : Type 0} (r : Result A E) (o : Option E) (e : E) → r ≡ Err e → ((f : E) → (r ≡ Err f) ↔ (o ≡ Some f)) → o ≡ Some e
 some_from r o e is told = (told e).0 is
 
--- the same fault, of two results
+-- two results that report the same fault
 pub told_along : {A B E : Type 0} (r : Result A E) (s : Result B E) (o : Option E) (e : E) → r ≡ Err e → s ≡ Err e → ((f : E) → (r ≡ Err f) ↔ (o ≡ Some f)) → (f : E) → (s ≡ Err f) ↔ (o ≡ Some f)
 told_along r s o e r_is s_is told f = refused s o e s_is (some_from r o e r_is told) f
 
@@ -29,7 +29,7 @@ pub ok_from : {A E : Type 0} (r : Result A E) (o : Option E) (P Q : A → Type 0
 ok_from (Ok x) o P Q told p step = step x (none_from (Ok x) o x refl told) p
 ok_from (Err e) o P Q told p step = tt
 
--- two facts of it are one
+-- two facts of such a result are one fact
 pub both : {A E : Type 0} (r : Result A E) (P Q R : A → Type 0) → ((x : A) → P x → Q x → R x) → IfOk r P → IfOk r Q → IfOk r R
 both (Ok x) P Q R join p q = join x p q
 both (Err e) P Q R join p q = tt

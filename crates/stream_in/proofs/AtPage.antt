@@ -37,7 +37,7 @@ at_first free old frames table extents blocks page w can begun room =
       enough = enough;
     }
 
--- and with one page more
+-- and with one page more put
 pub has_put : (free : List ℕ) (frames f : List (List ℕ)) (table : SlotTable) (extents : List (ℕ × ℕ × ℕ)) (blocks : ℕ) (page : List ℕ) (old : Option Writing) (w new : Writing) → IsAtPage free frames table extents blocks page old w → IsPagePut free f w new → HasPut free f table extents page old new
 has_put free frames f table extents blocks page old w new at put =
     let info = ap writes_of put.image.info in
@@ -50,7 +50,7 @@ has_put free frames f table extents blocks page old w new at put =
       first = put.image.first ∙ at.first_is;
     }
 
--- the same of the answer of a begin
+-- the same for the result of a begin
 pub at_begun : (free : List ℕ) (old frames : List (List ℕ)) (table : SlotTable) (extents : List (ℕ × ℕ × ℕ)) (blocks : ℕ) (page : List ℕ) (r : Result Writing InStop) → CanBegin free old table extents blocks page →
     IfOk r (λ w. HasBegun (info_of page) extents table (free_in old table) frames w) → IfOk r (λ w. all_pages page + 1026 ≤ length (free_in old table)) → IfOk r (λ w. IsAtPage free frames table extents blocks page None w)
 at_begun free old frames table extents blocks page (Ok w) can begun room = at_first free old frames table extents blocks page w can begun room

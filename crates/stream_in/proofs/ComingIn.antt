@@ -95,7 +95,7 @@ all_read area free bs blocks u v stream ready over k lt =
     let page = page_at bs (page_of_write k) in
     over.others (laid_write (first_blocks area) free n page k).0 (block_some area free bs blocks k page stream lt) ∙ ready.written (omega arith) k (subst (λ (m : ℕ). k < m) (sym all) lt)
 
--- where it is marked, the stream has come in
+-- if that image is marked, the stream has come in
 pub come_in : (area : Area) (free bs : List ℕ) (blocks : ℕ) (x : disk.Content) (v : disk.DiskImage) → IsWholeFor area free bs blocks → disk.IsContent blocks x → IsReadyFor area free bs (disk.as_it_reads x) → DiffersInHeader (disk.as_it_reads x) v →
     disk.block v 0 ≡ marked (disk.block (disk.as_it_reads x) 0) (laid_block (first_blocks area) free 0) 2 0 → HasComeIn area bs v
 come_in area free bs blocks x v stream is ready over header =
@@ -160,7 +160,7 @@ pub none_whole : (area : Area) (free bs : List ℕ) (m : ℕ) (past : ℕ → di
 none_whole area free bs m past None = tt
 none_whole area free bs m past (Some x) = λ ready t v le left is_marked. inl left
 
--- What it leaves, whether it succeeds or not.
+-- What the mark's write and sync leave, successful or not.
 
 leaves_whole : (area : Area) (free bs : List ℕ) (s : StreamIn) (x y : disk.Content) → TakesInto area free bs s → short_fault bs ≡ None → disk.IsContent s.blocks x → TriesMark (laid_block s.map free 0) x y → LeavesWhole area free bs x y
 leaves_whole area free bs s x y into whole is tries ready v in' is_marked =

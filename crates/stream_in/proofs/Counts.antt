@@ -11,7 +11,7 @@ pub info_pages : (page : List ℕ) → (info_of page).pages ≡ all_pages page
 unfolding info_of
 info_pages page = refl
 
--- they are small, and the maps are fewer than the spare slots
+-- the counts are small, and the maps are fewer than the spare slots
 pub record AreFew (page : List ℕ) (info : Info) : Type 0 where
   pub pages : info.pages ≡ all_pages page
   pub some : 3 ≤ info.pages

@@ -198,7 +198,7 @@ holds_stream area free bs page blocks v h stream over is =
       );
     }
 
--- An image of which it is the stream.
+-- An image whose stream the bytes are.
 
 image_count : (i : Image) (bs : List ℕ) → AreOfImage i bs → length bs ≡ 4096 * all_pages bs → all_pages bs ≡ pages_of i
 image_count i bs of size = omega (arith, length-joined (stream_of i) of.pages, ap length of.bytes, length-stream_of i)

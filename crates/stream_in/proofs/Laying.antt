@@ -68,7 +68,7 @@ pub more_then : (extents : List (ℕ × ℕ × ℕ)) (free : List ℕ) (count : 
 more_then extents free count pages k m n a b c f g =
     changes_then (MakesMore extents free count pages k m) (MakesMore extents free count pages m n) (MakesMore extents free count pages k n) a b c (λ x y z s t done. t (s done)) f g
 
--- the same, of equal extents and counts
+-- a put, under equal extents and counts
 pub more_same : (x y : List (ℕ × ℕ × ℕ)) (free : List ℕ) (count other : ℕ) (pages : ℕ → List ℕ) (k l m n : ℕ) (a b : Option Content) → y ≡ x → other ≡ count → l ≡ k → n ≡ m → Changes (MakesMore y free other pages l n) a b → Changes (MakesMore x free count pages k m) a b
 more_same x y free count other pages k l m n a b e f g i h =
     let P : List (ℕ × ℕ × ℕ) → Type 0 = λ z. Changes (MakesMore z free other pages l n) a b in

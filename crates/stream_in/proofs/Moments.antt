@@ -42,7 +42,7 @@ alike_then m n o p q r first second =
       nothing_else = λ t v before left. first.nothing_else t v before (second.nothing_else t v (omega arith) left);
     }
 
--- a mixture of a content and itself, or of a content and what a sync makes of it
+-- a mixture of a content and the same content, or of a content and what a sync makes of it
 mixture_same : (x : Content) (v : DiskImage) → IsMixture x x v → IsImage x v
 mixture_same x v mixed =
     let size = mixed.size in

@@ -1,4 +1,4 @@
--- A session that is just opened.
+-- A newly opened session.
 use Rattle.std.proofs.Common.{sym, ◌≡◌, ℕ, ◌+◌, ◌*◌, ◌/◌, ◌%◌, ◌<◌, ◌≤◌, eqb, cond, filter, suc, Bool, true, false, inl, inr, List, [], ◌∷◌, length, take, drop, get_or, replicate, ap, ◌∙◌, subst, arith}
 use Rattle.std.specs.List.{All, Contains, range_with_len}
 use Rattle.std.proofs.lemmas.List.{length-replicate, get_or-replicate, get_or-drop}
@@ -101,7 +101,7 @@ slots_below n blocks frames le place lt =
     let below = free.0 in
     omega arith
 
--- each is one of the map's
+-- each free slot is one of the map's
 pub of_map : (n : ℕ) (frames : List (List ℕ)) (extents : List (ℕ × ℕ × ℕ)) → extents ≡ (0, n, 0) ∷ [] → IsFileMap ((0, n, 0) ∷ []) n → AreOfMap extents (free_slots n 0 frames)
 of_map n frames extents is map =
     (n, subst (λ (x : List (ℕ × ℕ × ℕ)). IsFileMap x n) (sym is) map, λ place lt. (free_slot n 0 frames (get_or (free_slots n 0 frames) place 0) (Contains-get_or (free_slots n 0 frames) place 0 lt)).0)

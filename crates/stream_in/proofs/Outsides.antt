@@ -30,7 +30,7 @@ keeps_at extents free at x y is same = record {
   ];
 }
 
--- by a put, whether it fails or not
+-- a put leaves the other blocks, whether it fails or not
 pub put_keeps : (free : List ℕ) (frames : List (List ℕ)) (w : Writing) (page : List ℕ) (r : WriteStep) (a b : Option Content) → IsWriting free frames w → (r ≡ Fault) ⊎ (r ≡ after (w.written + 1) (writes_of w.info)) →
     (Succeeds r → Changes (Makes (write_next free w page)) a b) → (r ≡ Fault → Changes (FailsToMake (write_next free w page)) a b) → Changes (KeepsOutside w.extents free) a b
 put_keeps free frames w page r a b h answer made failed =

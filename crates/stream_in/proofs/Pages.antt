@@ -37,7 +37,7 @@ read_more extents free bs part count k v whole read j lt =
     let same = same_write extents free count (page_at bs (page_of_write j)) (page_at (bs ++ part) (page_of_write j)) j which in
     subst (λ (w : ℕ × List ℕ). block v w.0 ≡ w.1) same (read j lt)
 
--- the same, of equal counts
+-- what reads as made, under equal counts
 read_same : (extents : List (ℕ × ℕ × ℕ)) (free : List ℕ) (c d k m : ℕ) (pages : ℕ → List ℕ) (v : DiskImage) → c ≡ d → k ≡ m → ReadAsMade extents free c pages k v → ReadAsMade extents free d pages m v
 read_same extents free c d k m pages v e f h =
     let P : ℕ → Type 0 = λ n. ReadAsMade extents free n pages k v in
@@ -84,7 +84,7 @@ page_count free bs part page frames table extents (Some w) full out =
     let before : w.written ≡ k + k / 511 = out.written ∙ some_written (all_pages bs) k (omega arith) in
     omega arith
 
--- with it more is written
+-- with a full page more is written
 pub written_full : (free bs part page : List ℕ) (old frames : List (List ℕ)) (table : SlotTable) (extents : List (ℕ × ℕ × ℕ)) (w : Option Writing) (new : Writing) → IsFull bs part page → IsOutput free bs old table extents w → IsBegun free (bs ++ part) frames table extents new →
     (x y : Content) → MakesMore extents free (pages_in page w) (page_at (bs ++ part)) (writes_made w) new.written x y → WritesOn extents free bs part x y
 written_full free bs part page old frames table extents None new full out begun x y makes written late =

@@ -22,7 +22,7 @@ told : (r other : WriteStep) → (r ≡ Fault) ⊎ (r ≡ other) → Succeeds r 
 told r other (inl e) ok = absurd (subst Succeeds e ok)
 told r other (inr e) ok = e
 
--- the answer that a map follows, and the one that none does
+-- the result of a put that a map follows, and of one that none follows
 pub record Follows (k of : ℕ) : Type 0 where
   pub more : k ≢ of
   pub map : (k % 512 ≡ 511) ⊎ (k + 1 ≡ of)
@@ -57,7 +57,7 @@ succeeds k of = elim (cases_eq k of) [
   | inr ne ↦ subst Succeeds (sym (cond-false (eqb k of) Done (More k of) (ne_eqb k of ne))) tt
 ]
 
--- an answer that a map follows is no fault
+-- a result that a map follows is no fault
 pub not_fault : (r : WriteStep) → is_map_next r ≡ true → Succeeds r
 not_fault (More k of) h = tt
 not_fault Done h = tt

@@ -67,7 +67,7 @@ no_header area free extents m n past since usable is elapses t v le left =
       ]),
     )
 
--- A session that is just opened, over a header block that it could use.
+-- A newly opened session, over a header block that it could use.
 
 room_for : (blocks : ℕ) (area : Area) → room_fault blocks area ≡ None → area.last < blocks
 room_for blocks area none = below (ltb area.last blocks) (ltb area.last 131072) area.last blocks (ltb-true area.last blocks) none

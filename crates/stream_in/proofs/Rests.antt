@@ -1,4 +1,4 @@
--- A disk that is at rest before an image is written to it.
+-- A disk at rest before an image is written to it.
 use Rattle.std.proofs.Common.{◌≡◌, ◌<◌, ◌≤◌, ◌⊎◌, ℕ, ◌+◌, ◌%◌, Bool, true, false, eqb, List, ◌++◌, length, Option, Some, None, is_none, is_some, not, refl, sym, ap, ◌∙◌, subst, inl, inr, ⊎_elim, arith, length-append}
 use Rattle.std.proofs.lemmas.Bool.{cases_lt, cases_Bool, eqb-true, cond-false}
 use Rattle.definitions.specs.Disk.{Content, DiskImage, Changes, as_it_reads, settled}
@@ -19,7 +19,7 @@ use Rattle.stream_in.proofs.Outsides.{keeps_none, keeps_then}
 
 -- One page.
 
--- whether it is the first one
+-- whether the page is the first one
 pub is_first : (w : Option Writing) (begins : Bool) → is_some w ≡ not begins → begins ≡ is_none w
 is_first None true is = refl
 is_first None false is = cc
@@ -68,7 +68,7 @@ told_made extents free count pages k m begins a b c rests made =
     changes_then (IsAtRest begins) (MakesMore extents free count pages k m) (MakesMore extents free count pages k m) a b c
     (λ x y z rest more before. more (subst (λ (v : DiskImage). ReadAsMade extents free count pages k v) (sym (reads_at_rest begins x y rest)) before)) rests made
 
--- it takes at most three calls: the sync comes before the first page alone, and no map follows that one
+-- a put takes at most three calls: only the first page has the sync before it, and no map follows that page
 pub few_calls : (free : List ℕ) (frames : List (List ℕ)) (table : SlotTable) (extents : List (ℕ × ℕ × ℕ)) (blocks : ℕ) (page : List ℕ) (w : Option Writing) (next : Writing) (begins : Bool) (before mid now : ℕ) → CanPut free frames table extents blocks page w → begins ≡ is_none w → next.info.pages ≡ pages_in page w → next.written ≡ writes_made w →
     (begins ≡ false → mid ≡ before) → mid ≤ before + 1 → now ≤ mid + 3 → (next.written ≡ 0 → 3 ≤ next.info.pages → now ≤ mid + 1) → now ≤ before + 3
 few_calls free frames table extents blocks page None next begins before mid now can is pages made same rest put first =
@@ -99,7 +99,7 @@ told_stop free bs frames table extents w a b out fails =
     changes_as (FailsAtRest extents free w) (StopsAtRest extents free (length bs)) a b
     (λ x y. ⊎_elim (λ (same : y ≡ x). inl same) (λ (p : PutsAtRest extents free w x y). inr (keeps_at_rest free bs frames table extents w x y out p))) fails
 
--- no page is full with them
+-- no page is full with these bytes
 pub unwritten : (extents : List (ℕ × ℕ × ℕ)) (free : List ℕ) (n m : ℕ) (x : Content) → (4096 ≤ m → 4096 ≤ n) → WritesAtRest extents free n m x x
 unwritten extents free n m x late = record {
   early = λ lt. refl;

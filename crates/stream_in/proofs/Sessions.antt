@@ -35,14 +35,14 @@ page_part bs part page x post begun is within x_is has i lt =
           ∙ sym (get_or-append_right bs part (length bs) (length bs - begun + i) 0 refl (omega arith) ∙ ap (λ k. get_or part k 0) at)
     ]
 
--- the page isn't full with them
+-- the page isn't full with these bytes
 pub page_open : (bs part page x post : List ℕ) (begun : ℕ) → begun ≡ length bs % 4096 → begun + length part < 4096 → begun ≤ length page → x ≡ part → HasPage bs page → HasPage (bs ++ part) (take begun page ++ (x ++ post))
 page_open bs part page x post begun is few within x_is has i lt =
     let size = length-append bs part in
     let at : length bs - begun + i ≡ length (bs ++ part) - length (bs ++ part) % 4096 + i = omega arith in
     page_part bs part page x post begun is within x_is has i (omega arith) ∙ ap (λ k. get_or (bs ++ part) k 0) at
 
--- or it is
+-- or the page is full
 pub page_closed : (bs part page : List ℕ) → (length bs % 4096) + length part ≡ 4096 → HasPage (bs ++ part) page
 page_closed bs part page full i lt = absurd (omega (arith, length-append bs part))
 
@@ -100,7 +100,7 @@ sound_full bs part page full = let size = full.size in sound_from (bs ++ part) (
 pub some_written : (pages k : ℕ) → k < pages → writes_after pages k ≡ k + k / 511
 some_written pages k lt = cond-false (eqb k pages) (pages + maps_of pages) (k + k / 511) (ne_eqb k pages (λ e. omega arith))
 
--- It can be written.
+-- The full page can be written.
 pub can_put : (free bs part page : List ℕ) (frames : List (List ℕ)) (table : SlotTable) (extents : List (ℕ × ℕ × ℕ)) (blocks : ℕ) (w : Option Writing) → length free < 2 ^ 32 → blocks < 2 ^ 32 → BlocksBelow extents free (length free) blocks →
     IsFull bs part page → IsOutput free bs frames table extents w → CanPut free frames table extents blocks page w
 can_put free bs part page frames table extents blocks None few count on_disk full out =
@@ -138,7 +138,7 @@ can_put free bs part page frames table extents blocks (Some w) few count on_disk
           (ne_eqb (w.written % 512) 511 (λ e. omega arith)) (ne_eqb (w.written + 1) (w.info.pages + maps_of w.info.pages) (λ e. omega arith));
     }
 
--- And when it is written:
+-- And when the page is written:
 unfinished : (pages k : ℕ) → k < pages → writes_after pages k < pages + maps_of pages
 unfinished pages k lt = let e = some_written pages k lt in omega arith
 
@@ -189,7 +189,7 @@ has_output free bs part page old frames table extents (Some w) new full out put 
       first = put.first ∙ out.first;
     }
 
--- Too few slots are free for it.
+-- Too few slots are free for the image.
 pub too_few : (free bs part page : List ℕ) (frames : List (List ℕ)) (table : SlotTable) (extents : List (ℕ × ℕ × ℕ)) (w : Option Writing) (told need : ℕ) → IsFull bs part page → IsOutput free bs frames table extents w → HasTooFew free page w told need → HasTooFewFor free (bs ++ part) told need
 too_few free bs part page frames table extents None told need full out few =
     let info = first_info bs part page full out.early in

@@ -81,7 +81,7 @@ told_lies_synced blocks page u (Some x) (Some y) is lies synced = lies_synced bl
 pub told_lies_same : (page : List ℕ) (u : DiskImage) (a b : Option Content) → b ≡ a → IfSome a (LiesOver page u) → IfSome b (LiesOver page u)
 told_lies_same page u a b same lies = subst (λ (o : Option Content). IfSome o (LiesOver page u)) (sym same) lies
 
--- Time goes on over them.
+-- Time goes on over the calls.
 
 mixture_over : (page : List ℕ) (u : DiskImage) (x y : Content) (v : DiskImage) → LiesOver page u x → LiesOver page u y → IsMixture x y v → ReadsOver page u v
 mixture_over page u x y v old new mixed =
@@ -229,7 +229,7 @@ over_mark blocks first m n past since x is some area elapses counts =
           (elapses.nothing_else t v le left);
     }
 
--- The same where the content is told.
+-- A marking, if the content is told.
 
 pub told_marking : (blocks first : ℕ) (page over : List ℕ) (m n o : ℕ) (p q r : ℕ → DiskImage → Type 0) (a b : Option Content) → IfSome a (IsContent blocks) → 0 < blocks → kind_fault (area_kind page) ≡ None → over ≡ marked page first 2 0 →
     IfSome a (λ held. page ≡ block (as_it_reads held) 0) → Changes Syncs a b → ElapsesAlike m n p q → ((u : DiskImage) → IfSome b (LiesOver over u) → ElapsesTrying over u n o q r) → CountsNow m p a → IfSome a (λ held. ElapsesOverMark first m o p r held)
@@ -249,7 +249,7 @@ pub told_alike_mark : (first m n : ℕ) (p q : ℕ → DiskImage → Type 0) (a 
 told_alike_mark first m n p q None alike = tt
 told_alike_mark first m n p q (Some x) alike = alike_mark first m n p q x alike
 
--- The images of the disk, whether it tells moments or not.
+-- The images of the disk, whether or not it tells moments.
 
 pub told_adds_same : (a b : Option Content) → b ≡ a → Changes AddsNoImage a b
 told_adds_same a b e = subst (λ (o : Option Content). Changes AddsNoImage a o) (sym e) (still a) where

@@ -53,7 +53,7 @@ pub unmarked : (page back : List ℕ) → kind_fault (area_kind page) ≡ None �
 unmarked page back none agree is =
     marked_false page (not_image_kind (area_kind page) none) (sym (sig_same back page agree) ∙ is)
 
--- The same where the content is told.
+-- Block 0 written and synced, if the content is told.
 
 pub told_header : (blocks : ℕ) (page back : List ℕ) (a b c : Option Content) → IfSome a (IsContent blocks) → 0 < blocks → IsPage page → page ≡ back →
     Changes (Writes 0 page) a b → Changes Syncs b c → Changes (HasHeader back) a c
@@ -127,7 +127,7 @@ told_marks page over first a b c none e read synced has =
     (λ x y z s h. marks page first x y z none s.0 s.1 (subst (λ (p : List ℕ). HasHeader p y z) e h))
     (changes_from (IsHeader page) Syncs (λ x y. IsHeader page x × Syncs x y) a b (λ x y p r. (p, r)) read synced) has
 
--- and what a fault of it leaves
+-- and what a fault of the mark leaves
 
 leaves_over : (page over : List ℕ) (left : Left) (x y z : Content) → kind_fault (area_kind page) ≡ None → AgreeBut 4056 4086 (taken_back over) page → Syncs x y → LeavesOver over left y z → Leaves left x z
 leaves_over page over Same x y z none agree synced h = absurd h

@@ -61,7 +61,7 @@ module _ (s : Inside) (kept : IsKept s) where
       IsPart (get_or pages s.cursor.page []) s.cursor new before after count
   data_part new before after count le lt part = subst (λ (p : List ℕ). IsPart p s.cursor new before after count) (sym (data_page le lt)) part
 
-  -- what is kept of it after a part of a page
+  -- what is kept of the stream after a part of a page
 
   within : s.cursor.page < heads + length members → s.cursor.page < length pages
   within lt = let size = length_pages in omega arith

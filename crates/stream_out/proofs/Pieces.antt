@@ -26,7 +26,7 @@ module _ (stream piece now part : List ℕ) (f k : ℕ) (fits : f ≤ length str
       ∙ sym (append_assoc (take f stream) (take k (drop f stream)) (drop (f + k) piece))
       ∙ ap (λ (xs : List ℕ). xs ++ drop (f + k) piece) (sym (take-add f k stream))
 
--- The pieces that calls hand out of these bytes one after another, where so many bytes fit into each.
+-- The pieces of these bytes that calls hand out one after another, given how many bytes fit into each piece.
 abbrev pub pieces_of : List ℕ → List ℕ → List (List ℕ)
 pieces_of [] bytes = []
 pieces_of (n ∷ ns) bytes = take n bytes ∷ pieces_of ns (drop n bytes)

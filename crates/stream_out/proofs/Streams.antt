@@ -28,7 +28,7 @@ left_here : (pages : List (List ℕ)) (c : Cursor) → c.page < length pages →
 unfolding left_behind
 left_here pages c lt = ap (λ (xss : List (List ℕ)). drop c.at (concat xss)) (drop_more pages c.page [] lt)
 
--- those of the page, and those of the pages after it
+-- the rest of the cursor's page, and the pages after it
 left_in_page : (pages : List (List ℕ)) (c : Cursor) → c.page < length pages → c.at ≤ length (get_or pages c.page []) → left_behind pages c ≡ drop c.at (get_or pages c.page []) ++ concat (drop (c.page + 1) pages)
 left_in_page pages c lt le = left_here pages c lt ∙ drop-append-le c.at (get_or pages c.page []) (concat (drop (c.page + 1) pages)) le
 
@@ -124,7 +124,7 @@ pub length-stream_over : (h : Hardware) (frames : List ℕ) (saved : List (List 
 unfolding stream_pages
 length-stream_over h frames saved = let size = length-number_pages frames in omega (arith, length-append (number_pages (marked_numbers frames [])) saved)
 
--- They are those of the image.
+-- The pages are those of the image.
 
 abbrev Saved : Type 0
 Saved = ℕ × List ℕ

@@ -12,7 +12,7 @@ use Rattle.swap_slots.specs.declared.runs.FreeRuns.TheInside.{Inside}
 use Rattle.swap_slots.proofs.FreeBits.{few_members, members_of-set, members_of-clear, length-set, length-clear}
 use Rattle.swap_slots.proofs.Keeping.{kept_set, kept_last, kept_clear}
 
--- A bit of the words `now`, which are those of `r`, became v, and the answer `was` says whether it was another.
+-- Bit s of the words `now`, which are those of `r`, became v and gave `bits`; `was` says whether the bit was another.
 pub record BitWritten (r : Inside) (s v : ℕ) (was : Bool) (now bits : List ℕ) : Type 0 where
   pub kept : IsKept r
   pub within : s < r.room

@@ -23,7 +23,7 @@ word_of-entry_of_word word =
       ]
     ]
 
--- An entry that its own word gives back is a word's entry just where the word is its own.
+-- If an entry's own word reads back as the entry, a word reads as the entry if and only if it is the entry's own word.
 pub entry_of_word-is : (word : ℕ) (e : SlotEntry) → entry_of_word (word_of e) ≡ e → (entry_of_word word ≡ e) ↔ (word ≡ word_of e)
 entry_of_word-is word e own =
     (λ same. sym (word_of-entry_of_word word) ∙ ap word_of same, λ same. ap entry_of_word same ∙ own)

@@ -63,7 +63,7 @@ kept_past room count s bits bits' summary h change k one = elim (cases_eq k s) [
   | inr ne ↦ h.past k (sym (change.others k ne) ∙ one)
 ]
 
--- its word is 0 now, and so is the word's bit
+-- the word of a cleared bit is 0 now, and its bit in the summary is cleared too
 pub kept_last : (room count count' s : ℕ) (bits bits' summary summary' : List ℕ) → AreKept room count bits summary → ChangesBit s 0 bits bits' → IsClearWord bits' (s / 64) → ChangesBit (s / 64) 0 summary summary' → length bits' ≡ length bits → length summary' ≡ length summary → count' ≡ length (members_of room bits') → AreKept room count' bits' summary'
 kept_last room count count' s bits bits' summary summary' h change word above same_bits same_summary counted = record {
   size = h.size;
@@ -82,7 +82,7 @@ kept_last room count count' s bits bits' summary summary' h change word above sa
   counted = counted;
 }
 
--- its word isn't 0 now, and the summary stays
+-- the word of a cleared bit isn't 0 now, and the summary stays
 pub kept_clear : (room count count' s : ℕ) (bits bits' summary : List ℕ) → AreKept room count bits summary → ChangesBit s 0 bits bits' → (IsClearWord bits' (s / 64) → ⊥) → length bits' ≡ length bits → count' ≡ length (members_of room bits') → AreKept room count' bits' summary
 kept_clear room count count' s bits bits' summary h change word same_bits counted = record {
   size = h.size;
@@ -108,7 +108,7 @@ pub none_free : (room count : ℕ) (bits summary : List ℕ) → AreKept room co
 none_free room count bits summary h clear =
     members_of-clear_all room bits (λ s lt. let slots = h.slots in let words = h.words in h.none s (clear (s / 64) (omega arith) (omega arith)))
 
--- a word of which the summary says that it isn't 0 has a bit that is 1
+-- a word that isn't 0 by the summary has a bit that is 1
 pub some_in_word : (room count : ℕ) (bits summary : List ℕ) (w : ℕ) → AreKept room count bits summary → IsFirstBit summary (64 * 0) w → AllClear bits (64 * w) (64 * length bits) → ⊥
 some_in_word room count bits summary w h above clear =
     let zero_is = h.some w (λ s at. elim (cases_lt s (64 * length bits)) [

@@ -1,4 +1,4 @@
--- From a machine that is made from a number to what is told of it.
+-- From a machine that is made from a number to what is printed about it.
 use Rattle.std.proofs.Common.{zero, suc, ◌≡◌, ◌≢◌, inl, inr, ◌≤◌, ◌<◌, ◌+◌, ℕ, All, List, [], ◌∷◌, length, get_or, Option, Some, subst, ap, arith}
 use Rattle.std.proofs.lemmas.Bool.{cases_lt}
 use Rattle.definitions.specs.Disk as disk
@@ -32,7 +32,7 @@ all_cons : (P : Reply → Type 0) (r : Reply) (rs : List Reply) → P r → All 
 all_cons P r rs p ps zero d lt = p
 all_cons P r rs p ps (suc k) d lt = ps k d (omega arith)
 
--- where the count didn't rise no reply tells of a call that failed
+-- if the count didn't rise, no reply reports a call that failed
 pub none_failed : (rs : List Reply) (low high : ℕ) → AreCounted rs low high → (disk.HasRisen low high → ⊥) → All (λ r. TellsNewFault r → ⊥) rs
 none_failed [] low high le not = λ k d lt. absurd (omega arith)
 none_failed (r ∷ rs) low high (m, le, f, rest) not =

@@ -44,7 +44,7 @@ handed_more bs part piece k (Some old) (Some mid) (Some new) is first then =
 pub same_left : (bs : List ℕ) (old mid new : Option (List ℕ)) → new ≡ mid → HandsOut (length bs) bs old mid → HandsOut (length bs) bs old new
 same_left bs old mid new e h = subst (λ (o : Option (List ℕ)). HandsOut (length bs) bs old o) (sym e) h
 
--- What the disk holds of them.
+-- What the disk holds of the bytes that were fed.
 
 pub holds_none : (extents : List (ℕ × ℕ × ℕ)) (free : List ℕ) (x : Content) → HoldsFed extents free [] x x
 holds_none extents free x = record { outside = unwritten extents free 0 0 x (λ le. absurd (omega arith)); written = λ late. absurd (omega arith) }
@@ -61,7 +61,7 @@ holds_more extents extents' free bs part (Some x) (Some y) (Some z) e h i j =
     let k : WritesAtRest extents free (length bs) (length (bs ++ part)) y z = subst (λ (m : List (ℕ × ℕ × ℕ)). WritesAtRest m free (length bs) (length (bs ++ part)) y z) e j in
     record { outside = writes_then extents free 0 (length bs) (length (bs ++ part)) x y z (omega arith) (omega (arith, length-append bs part)) h.outside k; written = w h.written }
 
--- or it stops there
+-- or the session stops after them
 pub keeps_more : (extents extents' : List (ℕ × ℕ × ℕ)) (free bs : List ℕ) (a b c : Option Content) → extents' ≡ extents → Changes (HoldsFed extents free bs) a b → Changes (StopsAtRest extents' free (length bs)) b c → Changes (StopsAtRest extents free 0) a c
 keeps_more extents extents' free bs None None None e h j = tt
 keeps_more extents extents' free bs None None (Some z) e h j = absurd j
@@ -72,7 +72,7 @@ keeps_more extents extents' free bs (Some x) (Some y) (Some z) e h j =
     let k : StopsAtRest extents free (length bs) y z = subst (λ (m : List (ℕ × ℕ × ℕ)). StopsAtRest m free (length bs) y z) e j in
     stops_then extents free 0 (length bs) x y z (omega arith) h.outside k
 
--- How often it was called.
+-- How often the disk was called.
 
 pub called_none : (d : DiskView) → IsCalledAtMost 0 d d
 called_none d = record { calls = omega arith; faults = omega arith; orders = refl; blocks = refl }
@@ -86,7 +86,7 @@ called_more bs part d e f h calls faults orders blocks =
     let counted = h.faults in
     record { calls = omega arith; faults = omega arith; orders = orders ∙ h.orders; blocks = blocks ∙ h.blocks }
 
--- Why it stops.
+-- Why the feeding stops.
 
 pub stop_for : {A : Type 0} (free bs : List ℕ) (why : InStop) (r : Result A InStop) → r ≡ Err why → IsOfFeed why → ((fault : StreamFault) → r ≡ Err (stop.Stream fault) → first_fault bs ≡ Some fault) →
     ((fault : StreamFault) → r ≡ Err (stop.Stream fault) → SufficeFor free bs) →

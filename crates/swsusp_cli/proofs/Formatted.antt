@@ -12,7 +12,7 @@ use Rattle.protocol_laws.specs.Rows.{LeavesBlock}
 use Rattle.script.specs.Grammar.{ScriptValue}
 use Rattle.swsusp_cli.specs.Replay.{Formats}
 
--- what a script's machine has, so that its area can be formatted on a disk of so many blocks
+-- what a script's machine needs, so that its area can be formatted on a disk with `blocks` blocks
 pub record CanFormat (script : ScriptValue) (blocks : ℕ) : Type 0 where
   pub some_slots : 0 < script.hardware.slots
   pub header : block_of_slot script.hardware 0 < blocks
@@ -23,7 +23,7 @@ pub record CanFormat (script : ScriptValue) (blocks : ℕ) : Type 0 where
 header_within : (h : Hardware) (v : disk.DiskImage) → block_of_slot h 0 < blocks_of v → header_of h v ≡ disk.block v (block_of_slot h 0)
 header_within h v within = ap (λ (t : Bool). cond t (disk.block v (block_of_slot h 0)) zero_page) (lt-ltb (block_of_slot h 0) (blocks_of v) within)
 
--- it carries no mark
+-- the formatted area carries no mark
 pub formatted_unmarked : (h : Hardware) (last : ℕ) (bad : List ℕ) (blocks : ℕ) (c mid : disk.Content) → disk.IsContent blocks c → block_of_slot h 0 < blocks → length bad ≤ 630 →
     disk.Writes (block_of_slot h 0) (area_page last bad) c mid → Marked h (disk.as_it_reads mid) → ⊥
 formatted_unmarked h last bad blocks c mid whole within few writes marked =
@@ -34,7 +34,7 @@ formatted_unmarked h last bad blocks c mid whole within few writes marked =
     let here : block_of_slot h 0 < blocks_of (disk.as_it_reads mid) = omega arith in
     area_page-unmarked last bad few (subst IsMarked (header_within h (disk.as_it_reads mid) here ∙ reads) marked)
 
--- its size and every other block stay
+-- the disk's size and every other block stay
 pub formats_size : (h : Hardware) (last : ℕ) (bad : List ℕ) (c d : disk.Content) → Formats h last bad c d → length d ≡ length c
 formats_size h last bad c d formats =
     ap length formats.2 ∙ length-settled (disk.as_it_reads formats.0) ∙ length-as_it_reads formats.0 ∙ formats.1.others.size

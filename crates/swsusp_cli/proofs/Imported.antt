@@ -106,7 +106,7 @@ whole_from bs sound whole =
     let all = is.are.all in
     record { info = info; size = omega arith; few = omega arith }
 
--- no slot but enough of them
+-- once the info page is whole, enough slots are free
 pub enough : (free bs : List ℕ) (frames : List (List ℕ)) (table : SlotTable) (extents : List (ℕ × ℕ × ℕ)) (w : Option Writing) → IsOutput free bs frames table extents w → 4096 ≤ length bs → all_pages bs + 1026 ≤ length free
 enough free bs frames table extents None out late = let early = out.early in absurd (omega arith)
 enough free bs frames table extents (Some w) out late = out.room
@@ -157,7 +157,7 @@ stores area free bs blocks x y z some slots whole room (holds, header) (marks, c
       no_header area zero usable = absurd (header_unusable area usable)
       no_header area (suc b) usable = omega arith
 
--- two changes, or one of a content that is so
+-- two changes are one with both properties; so are a change and a fact of the content before
 changes_both : (P Q : Content → Content → Type 0) (a b : Option Content) → Changes P a b → Changes Q a b → Changes (λ x y. P x y × Q x y) a b
 changes_both P Q None None p q = tt
 changes_both P Q None (Some y) p q = absurd p
@@ -256,7 +256,7 @@ ends_stopped area free bs why s left left' d e f opened stopped = by_why why sto
   by_why (stop.SyncFault what) is risen =
       inl (is, (area, free, bs, record { area_is = opened.area_is; bytes = bytes; content = content; called = called; risen = risen_from d.faults e.faults f.faults opened.called.faults (risen tt) }))
 
--- one of the two
+-- one of the two happened
 pub ends_unfed : (area : Area) (free : List ℕ) (stop : ImportStop) (s s' : StreamIn) (left left' : Option (List ℕ)) (d e f : DiskView) → HasOpened area free s d e → Feeds free s s' left left' e f (Err stop) → Ends left left' d f (Err stop)
 ends_unfed area free Source s s' left left' d e f opened (bs, fed) = ends_cut_off area free bs s s' left left' d e f opened fed
 ends_unfed area free (Session why) s s' left left' d e f opened (bs, stopped) = ends_stopped area free bs why s left left' d e f opened stopped

@@ -57,7 +57,7 @@ one_more extents i need next h is =
           }
     ]
 
--- Where they are a machine's, that is what its disk needs.
+-- If the extents are a machine's, their greatest end is what its disk needs.
 pub needed : (h : Hardware) (need : ℕ) → IsFileMap h.extents h.slots → IsGreatest h.extents (length h.extents) need → IsNeeded h need
 needed h need map greatest =
     let some = map.count.some in

@@ -66,7 +66,7 @@ stream_no_device same = cc
 words_no_device : status.Words ≡ status.Device → ⊥
 words_no_device same = cc
 
--- what is told of an answer by its own status
+-- what is printed of an answer, by its own status
 told_status : (ends own : Status) → (ends ≢ status.Stream → ends ≡ own) → own ≢ status.Words → ends ≢ status.Words
 told_status status.Done own is other = λ same. cc
 told_status status.Refused own is other = λ same. cc

@@ -107,7 +107,7 @@ run_formatted script old new events replies before between now c told whole whol
           (kept b (subst (λ (g : Hardware). IsNoSlot g b) (sym fresh.hardware) none));
     }
 
--- a format's two calls, and at most so many more
+-- a format's two calls, and at most `steps` more
 calls_within : (before between after steps : ℕ) → between ≡ disk.raised (disk.raised before) → after ≤ between + steps → after ≤ before + 2 + steps
 calls_within before between after steps two more = omega (arith, min-le_left (before + 1) disk.last_count, min-le_left (disk.raised before + 1) disk.last_count)
 
@@ -147,7 +147,7 @@ of_stream _ = ⊥
 device≢stream : Device ≢ Stream
 device≢stream e = subst of_stream (sym e) tt
 
--- a status that isn't of the streams is the answer's own
+-- a status that isn't `Stream` is the answer's own
 pub told_status : (status told : Status) → (status ≢ Stream → status ≡ told) → status ≡ Device → told ≡ Device
 told_status status told same is = sym (same (λ stream. device≢stream (sym is ∙ stream))) ∙ is
 

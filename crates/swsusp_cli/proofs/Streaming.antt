@@ -54,6 +54,6 @@ pub part_front : (stream left piece filled : List ℕ) (count : ℕ) (old now ne
 part_front stream left piece filled count old now new so_far least is next =
     front_written stream left count old now new so_far (subst (λ (text : List ℕ). TakesFront text now new) (part_is left piece filled count least is) next)
 
--- a stream of which nothing comes into a piece is over
+-- a stream that gives nothing into a piece is over
 pub none_left : (left piece : List ℕ) (count : ℕ) → count ≡ min (length piece) (length left) → count ≡ 0 → 0 < length piece → left ≡ []
 none_left left piece count least zero some = nil_from_length left (omega arith)

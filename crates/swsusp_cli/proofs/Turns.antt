@@ -41,7 +41,7 @@ run_more h v a [] (q ∷ rs) b e r b' run step = absurd run
 run_more h v a (d ∷ es) [] b e r b' run step = absurd run
 run_more h v a (d ∷ es) (q ∷ rs) b e r b' run step = (run.0, run.1, run_more h v run.0 es rs b e r b' run.2 step)
 
--- So replies that tell of a failed call are at most as many as the count rose by, its last value aside.
+-- Replies that report a failed call are at most as many as the count rose by, unless it reached its last value.
 pub counted_few : (tells : Reply → Bool) → ((r : Reply) → tells r ≡ true → TellsNewFault r) → (rs : List Reply) (low high : ℕ) → AreCounted rs low high → (low + length (filter tells rs) ≤ high) ⊎ (disk.last_count ≤ high)
 counted_few tells only [] low high le = inl (omega arith)
 counted_few tells only (r ∷ rs) low high (m, le, f, rest) = by_test (tells r) (λ e. f (only r e)) (counted_few tells only rs m high rest) where

@@ -1,4 +1,4 @@
--- Which words a command is spelled by: just those lists ask for it.
+-- Which words spell a command: a list asks for it if and only if it is one of these.
 use Rattle.std.proofs.Common.{◌≡◌, ◌∙◌, ◌<◌, ◌≤◌, ◌^◌, ◌&&◌, ◌⊎◌, inl, inr, ℕ, Bool, true, false, refl, sym, ap, ap₂, subst, arith, Option, Some, None, List, [], ◌∷◌, codes, cond, decimal, option_map, nat_lt, nat_eq}
 use Rattle.std.specs.Cmp.Lexicographic.{pointwise}
 use Rattle.std.proofs.lemmas.Bool.{ltb-true, lt-ltb}
@@ -142,7 +142,7 @@ named : (command known : List ℕ) (words : Words) (asked : Asked) → pointwise
     → Spells asked (command ∷ words)
 named command known words asked t h = subst (λ (c : List ℕ). Spells asked (c ∷ words)) (sym (same command known t)) h
 
--- each test of a chain: where it holds this is the answer, and else that
+-- each test of a chain: if it holds this is the result, else that
 either : (b : Bool) (x y : Option Asked) (asked : Asked) → cond b x y ≡ Some asked → ((b ≡ true) × (x ≡ Some asked)) ⊎ (y ≡ Some asked)
 either true x y asked e = inl (refl, e)
 either false x y asked e = inr e

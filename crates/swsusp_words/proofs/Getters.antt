@@ -40,7 +40,7 @@ module _ {E : Type 0} (G : List ℕ → Result ℕ E → Type 0) (bits : ℕ) (o
       go None e rows = rw (rows ∙ e) (sym (none e))
       go (Some t) e rows = rw (rows ∙ e) (one_parsed t r (some t e))
 
--- a flag that the rows tell is what its getter gives
+-- a flag in the rows is what its getter returns
 pub flag_read : (f : Found) (id : Text) (b : Bool) → (one_text f id ≡ None → b ≡ false) → (one_text f id ≡ Some (codes "true") → b ≡ true)
     → (one_text f id ≡ Some (codes "false") → b ≡ false) → (flag : Bool) → flag_at id (rows_of f) ≡ Some flag → b ≡ flag
 flag_read f id b none set unset flag e = go (one_text f id) refl (ap flag_of (one_text-rows f id) ∙ e)

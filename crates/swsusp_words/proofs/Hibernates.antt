@@ -57,14 +57,14 @@ image_size_row number = record {
   reading = AsWritten;
 }
 
--- these rows, with SWAP's value to come
+-- the given rows, with SWAP's value to come
 abbrev held_with : List Row → Text → Held
 held_with rows swap = record { rows = rows; pending = Some (codes "swap", swap ∷ []); skip = 0 }
 
 abbrev end_passes : Held → Bool
 end_passes end = settle_passes rules false end && (list_all default_passes rules && is_valid shape (finished rules end) false)
 
--- the words of the command are left to it
+-- the words of the command are left to the command
 module _ (name : Text) where
   taken_1 : (a : Text) → level_passes shape [] nothing_held (a ∷ []) false ≡ true → takes swsusp_app (name ∷ codes "hibernate" ∷ a ∷ []) ≡ true
   unfolding clap_on_literals

@@ -69,7 +69,7 @@ number_parts limit word n e =
       small = subst (λ m. m < limit) got.1 small;
     }
 
--- ---- how clap reads it
+-- ---- how clap reads a plain number
 
 first_digit : (word : List ℕ) → IsNumeral 10 word → (48 ≤ get_or word 0 0) × (get_or word 0 0 ≤ 57)
 first_digit [] h = absurd (omega (arith, h.0))
@@ -131,7 +131,7 @@ as_signed limit low high word n from to narrow e =
       reads = reads_numeral 32 word n p.numeral p.value (omega arith);
     }
 
--- ---- how it is printed
+-- ---- how a plain number is printed
 
 pub printed : (limit : ℕ) (word : List ℕ) (n : ℕ) → limit ≤ 2 ^ 64 → plain_number limit word ≡ Some n → word ≡ decimal n
 printed limit word n fits e =

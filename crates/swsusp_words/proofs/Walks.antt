@@ -2,7 +2,7 @@
 use Rattle.std.proofs.Common.{◌≡◌, ◌≢◌, ◌∙◌, ◌<◌, ℕ, zero, suc, sym, ap, ap₂, arith, List, [], ◌∷◌, length, map, take, get_or}
 
 module _ {A B C : Type 0} (f : A → C) (g : B → C) where
-  -- they differ where an item does
+  -- two lists differ if an item does
   pub differ : (xs : List A) (ys : List B) (n : ℕ) (x : A) (y : B) → n < length xs → n < length ys → ((d : A) → x ≡ get_or xs n d) → ((d : B) → y ≡ get_or ys n d)
       → f x ≢ g y → map f xs ≡ map g ys → ⊥
   differ [] ys n x y lt lt' at at' ne e = absurd (omega arith)

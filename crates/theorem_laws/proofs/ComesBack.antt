@@ -274,7 +274,7 @@ module _ (s : ℕ) (page : List ℕ) where
   step_keeps : (h : Hardware) (v : disk.DiskImage) (a : State) (e : Event) (r : Reply) (b : State) → Step h v a e r b → BootsAfresh e → r ≢ reply.Written s → KeepsPage s page a → KeepsPage s page b
   step_keeps h v a e r b step fresh quiet is = All-contains (Keeps s page) (outcomes h v a e) (r, b) (All-from_recursion (Keeps s page) (outcomes h v a e) (all_keep h v a e fresh is)) step quiet
 
-  -- so it stays over a run in which no page goes out to the slot
+  -- a page in a slot stays over a run in which no page goes out to the slot
   run_keeps : (h : Hardware) (v : disk.DiskImage) (a : State) (events : List Event) (replies : List Reply) (b : State) → Run h v a events replies b → AreQuiet s events replies → KeepsPage s page a → KeepsPage s page b
   run_keeps h v a [] [] b run quiet is = subst (KeepsPage s page) (sym run) is
   run_keeps h v a [] (r ∷ replies) b run quiet is = absurd run
@@ -325,7 +325,7 @@ went_out h a t s p b none (zero, lt, e) =
 went_out h a t s p b none (suc zero, lt, e) = absurd (written_no_fault s Same (reply_of (reply.WriteFault Same) (reply.Written s) _ b e))
 went_out h a t s p b none (suc (suc k), lt, e) = absurd (omega arith)
 
--- It is brought in.
+-- The page is brought in.
 
 page_there : (o : Option (List ℕ)) (page before : List ℕ) → (x : List ℕ) × (o ≡ Some x) → ((x : List ℕ) → o ≡ Some x → x ≡ page) → unwrap_or o before ≡ page
 page_there o page before (x, says) only = ap (λ (y : Option (List ℕ)). unwrap_or y before) says ∙ only x says

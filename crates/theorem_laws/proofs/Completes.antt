@@ -1,4 +1,4 @@
--- A command's status is 0 just where its answer is whole and the one of success.
+-- A command's status is 0 if and only if its answer is the one of success and was printed whole.
 use Rattle.std.proofs.Common.{◌≡◌, inl, inr, ℕ, Bool, true, false, cond, Option, List, [], refl, sym, ap, ◌∙◌, subst}
 use Rattle.std.proofs.lemmas.Bool.{false≢true}
 use Rattle.page_core.specs.declared.format.Format.{Format}
@@ -35,7 +35,7 @@ use Rattle.theorem_laws.specs.Completes.{HasSaved, HasRestored, HasExported, Has
 stream_no_done : status.Stream ≡ status.Done → ⊥
 stream_no_done same = cc
 
--- where the status is 0 the answer's own is, and out took its text whole
+-- if the status is 0, so is the answer's own, and out took its text whole
 own_done : (told : RunResult) (ends : Status) (x x' : View) → Tells told ends x x' → ends ≡ status.Done → (told.status ≡ status.Done) × IsPrinted told.out x.out x'.out
 own_done told ends x x' (inl whole) is = (sym whole.status_is ∙ is, whole.out_whole)
 own_done told ends x x' (inr cut) is = absurd (stream_no_done (sym cut.status_is ∙ is))
@@ -64,7 +64,7 @@ stop_no_done (stop.ReadFault left) same = cc
 stop_no_done (stop.WriteFault left) same = cc
 stop_no_done (stop.SyncFault left) same = cc
 
--- by a test of the reply which answer is told
+-- which answer is printed, by a test of the reply
 saved_by : (ended : Ended) (test : Bool) → is_hibernated ended.reply ≡ test → (hibernation_told ended).status ≡ status.Done → (is_hibernated ended.reply ≡ true) × ((hibernation_told ended).out ≡ line_of ended.reply)
 saved_by ended true is done = (is, ap (λ (b : Bool). (cond b (record { status = status.Done; out = line_of ended.reply; note = [] }) (stopped_told ended)).out) is)
 saved_by ended false is done =
@@ -137,7 +137,7 @@ module _ {X : Type 0} (D : Ghosts X) (before after : X) (x x' : View) (ends : St
   inspection_completes offset (inl is) = record { inspected = is; printed = (own_done is.answer ends x x' is.told done).1 }
   inspection_completes offset (inr is) = absurd (no_done memory_told ends x x' is.told (λ e. cc) done)
 
-  -- words that don't parse never end so
+  -- words that don't parse never end with status 0
   pub refusal_completes : Refuses x x' ends → ⊥
   refusal_completes (inl is) = no_done (unparsed is.text) ends x x' is.told (λ e. cc) done
   refusal_completes (inr is) = no_done memory_told ends x x' is.told (λ e. cc) done

@@ -64,7 +64,7 @@ module _ (h : Hardware) (w : disk.DiskImage) (i : Image) (m : Memory) (check : I
   has_its_room : has_room h (record { held = nothing; found = not_yet; loader = Table; dump = m; check = check }) (d_of i) ≡ true
   has_its_room = le-leb (need (d_of i)) (length (left_free h m Table)) room
 
-  -- its last step
+  -- the last step of the resume
   answers_resumed : (own_step h (record { held = nothing; found = not_yet; loader = Table; dump = m; check = check }) i (resume_steps i - 1)).0 ≡ reply.Resumed (n_of i)
   answers_resumed =
       let l : Load = record { held = nothing; found = not_yet; loader = Table; dump = m; check = check } in
@@ -87,7 +87,7 @@ module _ (h : Hardware) (w : disk.DiskImage) (i : Image) (m : Memory) (check : I
   is_own_disk : IsOwnDisk h w i
   is_own_disk = record { hardware = hardware; holds = holds; own = own; sayable = own_sayable h w i hardware own }
 
-  -- so it answers, where no call of the disk fails
+  -- the resume's reply is this one, if no call of the disk fails
   answers : (frames : Memory) (ended : Ended) (now : Option disk.Content) → IsResumed h m check w frames ended now → ended.failed ≡ false → ended.reply ≡ reply.Resumed (n_of i)
   answers frames ended now is unfailed = elim is.answer [
     | inl last ↦ one_last (trace h m w Table check) ended.reply (reply.Resumed (n_of i)) last.0 trace_ends
@@ -122,9 +122,9 @@ counted h a f n ended v now is hibernated = elim is.answer [
 no_mark_left : (r : Reply) (n : ℕ) → r ≡ reply.Resumed n → MayLeaveMark r → ⊥
 no_mark_left r n is left = subst MayLeaveMark is left
 
--- A hibernation that saved an image, and after it, over a disk that holds one of those that the first command left, a
--- resume into a loader of the same machine, which has room, and of which no call of the disk fails: it is resumed, with
--- each saveable page and each task's slot as at the atomic copy, and no image is left.
+-- A hibernation saves an image. After it, over a disk with one of the contents that this command left, comes a resume
+-- into a loader of the same machine that has room, and no call of the disk fails. The machine is then resumed with each
+-- saveable page and each task's slot as at the atomic copy, and no image is left.
 module _ {X Y : Type 0} (D : Ghosts X) (E : Ghosts Y) (before between : X) (again after : Y) (f : Format) (size : Option ℕ) (check : IdentCheck) (x x' y y' : View) (status status' : Status) (saved loader : DumpValue) (ended resumed' : Ended) (v w : disk.DiskImage) (c : disk.Content) (n : ℕ)
     (first : HasAnswered D before between f size x x' status saved ended) (was : D.content before ≡ Some (disk.settled v)) (original : Marked saved.hw v → HasOriginal saved.hw v) (hibernated : ended.reply ≡ reply.Hibernated n)
     (left : D.content between ≡ Some c) (honest : disk.IsImage c w)

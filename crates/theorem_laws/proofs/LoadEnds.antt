@@ -1,4 +1,4 @@
--- How a step of a resume may end it.
+-- How a step of a resume may end the resume.
 use Rattle.std.proofs.Common.{◌≡◌, ◌⊎◌, inl, inr, ℕ, ◌+◌, zero, suc, Bool, true, false, cond, not, eqb, ltb, ◌&&◌, ◌||◌, List, ◌∷◌, [], Option, Some, None, slice_get, refl, sym, ap, ◌∙◌, subst, arith, Contains}
 use Rattle.std.specs.List.{AllByRecursion}
 use Rattle.std.proofs.lemmas.List.Elements.{All-from_recursion, All-contains}

@@ -1,4 +1,4 @@
--- An image is there just where the mark is.
+-- An image is on the disk if and only if the mark is.
 use Rattle.std.proofs.Common.{inl, inr}
 use Rattle.definitions.specs.Disk as disk
 use Rattle.plain_machine.specs.Machine.{Hardware}

@@ -120,7 +120,7 @@ tables_stay h m ps q hw pages has are of =
     entry_at-with_entries_other m h.frame_table (top h.zones) ps 1 q pages has
     (λ p in'. let this = are p in' in (below_top h.zones p hw.zones.apart this.valid, λ e. this.apart (subst (IsTableFrame h) (sym e) of)))
 
--- A running state of which nothing flies.
+-- A running state with no unfinished operation.
 
 none_flies : (a : Running) → busy a ≡ None → (u s p : ℕ) → IsTask u → Flies a u s p → ⊥
 none_flies a idle u s p task (inl e) = none-some (goes_out s p) (sym (idle_tasks a idle u task) ∙ e)
@@ -149,7 +149,7 @@ row_busy w want t c core flies =
     subst (λ (x : State). refusal (hardware_of w) x (event.Shrink want) ≡ Some (reply.Busy t)) (sym run.1)
     (refused_busy w run.0 want t flies (on_parts w c run.0 (subst (StandsFor w c) run.1 stands)).memory.flights))
 
--- what a shrinking answers, and leaves of the page frames
+-- what a shrinking replies, and leaves of the page frames
 pub record Drops (h : Hardware) (want : ℕ) (frames : Memory) (dropped left : ℕ) (new : Memory) : Type 0 where
   pub frames_are : new ≡ drop_memory h frames want
   pub dropped_are : dropped ≡ length (dropped_by h frames want)

@@ -16,7 +16,7 @@ use Rattle.world_core.specs.declared.world.Core.TheVariants.{Off, Running, BootB
 use Rattle.world_core.specs.World.{World}
 use Rattle.world_core.specs.StandsFor.{StandsFor, IsOff, activity_of, is_off}
 
--- What tells activities apart: their kind, a boot's memory, and its steps.
+-- What distinguishes activities: their kind, a boot's memory, and their steps.
 abbrev rank : Activity → ℕ
 rank rests = 0
 rank runs = 1

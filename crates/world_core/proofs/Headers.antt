@@ -39,7 +39,7 @@ kind_read h v =
 
 -- The area that a world uses, and why it doesn't.
 
--- it is the block's, and usable; or this is why it isn't
+-- the area is the block's, and usable; or the world gives the reason why it isn't
 abbrev pub IsAreaOf : Hardware → disk.DiskImage → Result Area NoSwap → Type 0
 IsAreaOf h v (Ok area) = (area_kind (area_block h v) ≡ Swap area) × (area_fault h v ≡ None)
 IsAreaOf h v (Err why) = area_fault h v ≡ Some why
@@ -54,7 +54,7 @@ slot_read h v (Ok area) s is =
     ∙ ap (λ (fault : Option NoSwap). cond (is_some fault || has (bad_slots_in (area_kind (area_block h v))) s) bad_slot 0) (sym is.1)
 slot_read h v (Err why) s is = ap (λ (fault : Option NoSwap). cond (is_some fault || has (bad_slots_in (area_kind (area_block h v))) s) bad_slot 0) (sym is)
 
--- over a dump's memory it is the block's too, and its bad slots are just those of the memory
+-- over a dump's memory the area is the block's too, and its bad slots are exactly those of the memory
 abbrev pub IsKeptAreaOf : Hardware → disk.DiskImage → Memory → Result Area NoSwap → Type 0
 IsKeptAreaOf h v m (Ok area) = (area_kind (area_block h v) ≡ Swap area) × (dump_area_fault h v m ≡ None)
 IsKeptAreaOf h v m (Err why) = dump_area_fault h v m ≡ Some why

@@ -102,7 +102,7 @@ never_loads_in runs_on e = absurd (false≢true (ap is_loading e))
 never_loads_in switched_off e = absurd (false≢true (ap is_loading e))
 never_loads_in asleep e = absurd (false≢true (ap is_loading e))
 
--- it doesn't resume
+-- a world that hibernates or settles doesn't resume
 pub never_loads : {A : Type 0} (r : Reply) (core : Core) → core ≡ core_told r → core ≡ Loading → A
 never_loads r core is e = never_loads_in (hibernation.phase_told r) (sym is ∙ e)
 
@@ -116,16 +116,16 @@ never_wakes_in runs_on e = absurd (false≢true (ap is_waking e))
 never_wakes_in switched_off e = absurd (false≢true (ap is_waking e))
 never_wakes_in asleep e = absurd (false≢true (ap is_waking e))
 
--- and it doesn't wake
+-- a world that hibernates or settles doesn't wake
 pub never_wakes : {A : Type 0} (r : Reply) (core : Core) → core ≡ core_told r → core ≡ Waking → A
 never_wakes r core is e = never_wakes_in (hibernation.phase_told r) (sym is ∙ e)
 
--- nor sleeps, where it has just begun or was refused
+-- nor does a world sleep whose hibernation has only begun or was refused
 pub never_sleeps : {A : Type 0} (r : Reply) (core : Core) → core ≡ core_told r → (hibernation.phase_told r ≡ under_way) ⊎ (hibernation.phase_told r ≡ runs_on) → IsDown core → A
 never_sleeps r core is (inl begun) down = absurd (subst IsDown (is ∙ ap core_in begun) down)
 never_sleeps r core is (inr refused) down = absurd (subst IsDown (is ∙ ap core_in refused) down)
 
--- what it is at is what its activity says
+-- what a hibernation is doing is what its activity says
 core_of_stage : (s : Stage) → core_at (hibernation.activity_at s) ≡ core_in (hibernation.phase_at s)
 core_of_stage stage.Idle = refl
 core_of_stage stage.Over = refl

@@ -120,7 +120,7 @@ entries_at_begin (job.Suspend format) h old new hw reserved (inl begins) p in' =
 entries_at_begin job.Settle h old new hw reserved (inl same) p in' = ap (λ (m : Memory). frame_entry h m p) same
 entries_at_begin asked h old new hw reserved (inr same) p in' = ap (λ (m : Memory). frame_entry h m p) same
 
--- What a world is at after its hibernation or its resume has answered.
+-- What a world is doing after a step of its hibernation or its resume.
 
 no_tables_in : {A : Type 0} (phase : Phase) → HasTables (core_in phase) → A
 no_tables_in under_way has = absurd has

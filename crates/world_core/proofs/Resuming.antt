@@ -110,7 +110,7 @@ never_sleeps (stage.SyncBack found) down = down
 never_sleeps (stage.List chain) down = down
 never_sleeps (stage.Read chain) down = down
 
--- a world by what it has answered to a step of its resume
+-- a world after a step of its resume, by the reply
 pub record IsAfter (load : Load) (r : Reply) (core : Core) : Type 0 where
   pub loader : Loader
   pub core_is : core ≡ core_resumed loader r
@@ -128,7 +128,7 @@ idle_after load r core is e = absurd (never_hibernates load.stage (sym (core_now
 pub awake_after : {A : Type 0} (load : Load) (r : Reply) (core : Core) → IsAfter load r core → IsDown core → A
 awake_after load r core is down = absurd (never_sleeps load.stage (subst IsDown (core_now load r core is) down))
 
--- what a machine has that runs after it
+-- what a machine has that runs after its resume
 pub runs_after : (machine : Machine) (frames : Memory) (runs_of : SlotRuns) (load : Load) (r : Reply) (core : Core) → IsAfter load r core → CanStep machine frames runs_of load → IsUp core → RunsOn machine frames runs_of
 runs_after machine frames runs_of load r (Off keeps) after can up = absurd up
 runs_after machine frames runs_of load r Runs after can up = subst (λ (s : Stage). CanMake s machine frames runs_of load) (runs_at load.stage (sym (core_now load r Runs after))) can.next

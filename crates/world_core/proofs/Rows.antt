@@ -240,7 +240,7 @@ shrink_not_on w c a want e stands =
 pub frozen_shrink : (w : World) (c : disk.Content) (a : State) (want : ℕ) → IsBusyIn w → IsTaken w.core → StandsFor w c a → refusal (hardware_of w) a (event.Shrink want) ≡ Some reply.Frozen
 frozen_shrink w c a want busy_in taken stands = shrink_refusal (hardware_of w) a want ∙ frozen_by a busy (underway w c a busy_in taken stands)
 
--- One that sleeps isn't disturbed either.
+-- A machine that sleeps isn't disturbed either.
 sleeping_by : (w : World) (c : disk.Content) (a : State) (test : Running → Option Reply) → w.core ≡ Asleep → StandsFor w c a → refusal_if_running a test ≡ Some reply.Sleeping
 sleeping_by w c a test core stands =
     let sleep = at_sleep a (sym (activity_by w Asleep core) ∙ activity_for w c a stands) in
@@ -256,7 +256,7 @@ sleeping_job w c a asked core stands = job_refusal (hardware_of w) a asked ∙ s
 pub sleeping_shrink : (w : World) (c : disk.Content) (a : State) (want : ℕ) → w.core ≡ Asleep → StandsFor w c a → refusal (hardware_of w) a (event.Shrink want) ≡ Some reply.Sleeping
 sleeping_shrink w c a want core stands = shrink_refusal (hardware_of w) a want ∙ sleeping_by w c a busy core stands
 
--- and only one that sleeps wakes
+-- and only a machine that sleeps wakes
 abbrev is_sleep : Activity → Bool
 is_sleep sleeps = true
 is_sleep _ = false
@@ -375,7 +375,7 @@ pub idle_elsewhere : (w : World) (c : disk.Content) (a : State) (t : ℕ) → Is
 idle_elsewhere w c a t busy no_run stands =
     idle_without_flight (hardware_of w) a t (λ r e. absurd (runs_nowhere w busy no_run c a stands (ap activity_in e)))
 
--- nor where it has no operation
+-- nor if the task has no operation
 shows_none : (w : World) (c : disk.Content) (a : State) (t : ℕ) → is_some (flights_in w.machine.flights t) ≡ false → StandsFor w c a → (r : Running) → a ≡ on r → r.flights t ≡ None
 shows_none w c a t none stands r e =
     (subst (Stands (hardware_of w) (shown w) c) e stands.stands).parts.memory.flights t ∙ none_flies (flights_in w.machine.flights t) none where

@@ -55,7 +55,7 @@ runs_on h w c b core hw runs on' = record {
   resume = tt;
 }
 
--- where no image is held no slot is named as one's
+-- if no image is held, no slot is named as an image's
 names_none : (w : World) (c : disk.Content) (a : Running) → StandsFor w c (on a) → NamesNone w.machine w.frames
 names_none w c a stands unmarked s lt e =
     let parts = on_parts w c a stands in
@@ -267,7 +267,7 @@ read_failed_row old new t s p r blocks before now c is flies told failed =
       },
     ))
 
--- what the call makes and answers, by the operation
+-- what the call does and replies, by the operation
 end_by : (old new : World) (t : ℕ) (r : Reply) (blocks : ℕ) (before now : Option disk.Content) (f : Flight) → IsEnd old new t r blocks before now → flights_in old.machine.flights t ≡ Some f →
     Answers (Some f) r → CallsDisk (hardware_of old) old.frames (Some f) r before now → SimulatesWhereTold (event.Step (actor.Task t)) old new r before now
 end_by old new t r blocks before now (goes_out s p) is flies (inl done) calls c told =

@@ -138,7 +138,7 @@ pub restores_none : (old new : World) (r : Reply) (before now : Option disk.Cont
 restores_none old new (reply.Resumed n) before now core = λ c is load k stands. absurd (false≢true (ap is_of_waking (sym stands.stands.activity ∙ activity_by old Waking core)))
 restores_none old new _ before now core = tt
 
--- What it leaves of the page frames.
+-- What a waking leaves of the page frames.
 
 pub wakes_with : (old new : World) (r : Reply) → sleep_row.IsLeft r old.machine old.frames new.machine new.frames → WakesWith old new r
 wakes_with old new (reply.More k of) left = left.1
@@ -151,7 +151,7 @@ left_entries reply.Woken machine machine' frames frames' hw left = λ p in'. ap 
 left_entries (reply.More k of) machine machine' frames frames' hw left = λ p in'. ap (λ (m : Memory). frame_entry machine.hw m p) left.1
 left_entries _ machine machine' frames frames' hw left = λ p in'. ap (λ (m : Memory). frame_entry machine.hw m p) left.1
 
--- and the machine, but for what it holds
+-- and the machine stays, except for what it holds
 same_but_held : (machine machine' : Machine) → machine' ≡ record machine { held = No } → IsSameMachine machine machine'
 same_but_held machine machine' e = record { hw = ap (λ (m : Machine). m.hw) e; area = ap (λ (m : Machine). m.area) e; blocks = ap (λ (m : Machine). m.blocks) e; flights = ap (λ (m : Machine). m.flights) e }
 

@@ -6,7 +6,7 @@ use Rattle.dump_core.specs.Cores.{identity_bytes, machine_of}
 use Rattle.dump_core.proofs.Pieces.{on_ok_then}
 use Rattle.dump_core.proofs.heads.put_head.Goals as goal
 
--- the parts of the head of so many runs
+-- the parts of the head, which says that there are `count` runs
 abbrev Parts : ℕ → List ℕ → List (ℕ × ℕ) → ℕ → List ℕ
 Parts machine identity runs count =
     (front_bytes machine count ++ loads_bytes (page_offset count) runs) ++ back_bytes identity count

@@ -13,7 +13,7 @@ returns-in_err-pair-clause-read g c bytes h =
     let p = err_from_is_err_and c.from_residual.result c.from_residual.ensures.1 in
     stops _ _ _ (c.in_err-pair.ensures.read bytes h) (p.1 ∙ ap Err p.2) (λ f e. or_else-some (wanted bytes 32) _ f e)
 
--- what was read passes the test just where the field does
+-- what was read passes the test if and only if the field does
 tested : (bytes : List ℕ) (pair : ℕ × ℕ) (n : ℕ) (b : Bool) → pair ≡ (n, zone_count bytes) → b ≡ (nat_le 1 pair.1 && nat_le pair.1 16) → (nat_le 1 (zone_count bytes) && nat_le (zone_count bytes) 16) ≡ b
 tested bytes pair n b is tells = ap (λ (p : ℕ × ℕ). nat_le 1 p.1 && nat_le p.1 16) (sym is) ∙ sym tells
 

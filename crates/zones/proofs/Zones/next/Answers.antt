@@ -7,7 +7,7 @@ use Rattle.definitions.proofs.ZoneNumbers.{IsStrictlyIncreasing-numbers, Contain
 use Rattle.zones.specs.Kept.{kept_zones}
 use Rattle.zones.proofs.Zones.next.Goals as goal
 
--- the zones before zone j lie below p, and it doesn't
+-- the zones before zone j lie below p, and zone j doesn't
 first_in_zone : (zones : List (ℕ × ℕ)) (j p : ℕ) → AreZones zones → j < length zones → ((i : ℕ) → i < j → zone_end (zone_at zones i) ≤ p) → p < zone_end (zone_at zones j) → first_from (numbers zones) p ≡ Some (max p (zone_at zones j).0)
 first_in_zone zones j p h l before here =
     let each = h.each j (0, 0) l in

@@ -41,7 +41,7 @@ returns-then-k-lt7-clause-taken c = λ bs has.
           ∙ ap (λ n. get_or (bs ++ b ∷ []) (n + i) 0) (sym at);
     }
 
--- A byte that ends one.
+-- A byte that ends a word.
 done : (c : goal.After-with_word) (bs : List ℕ) → HasTaken bs c.args.self →
     Completes bs c.args.b c.read_u64.result (record c.args.self { taken = c.args.self.taken + 1; word = slice_set c.args.self.word (c.args.self.taken % 8) c.args.b })
 done c bs has =

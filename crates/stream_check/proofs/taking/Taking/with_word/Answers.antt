@@ -48,7 +48,7 @@ returns-then-at-eq-PAGES-clause-read c = λ bs b done.
     read_early bs b c.args.self c.args.self.image_pages c.args.v (omega (arith, done.taken)) done.read
     (kept_count bs b c.args.self done.read (omega (arith, done.taken))) (λ le. done.value ∙ ap (number_at 8 (bs ++ b ∷ [])) at)
 
--- nor one of the counts'
+-- the byte isn't the last one of the info page, nor of one of its counts
 pub returns-clause-fault : goal.returns-clause-fault
 returns-clause-fault c = λ bs b done. passed _ (first_fault (bs ++ b ∷ [])) _ refl (early bs b (omega (arith, done.taken, done.whole)))
 
