@@ -5,7 +5,7 @@ use image_machine::{Limit, Stop as MachineStop};
 use thiserror::Error;
 
 /// Why there is no dump.
-#[derive(Clone, Copy, Debug, PartialEq, Eq, Error)]
+#[derive(Clone, Copy, Debug, Error)]
 pub enum Stop {
     /// The input isn't a core file that can be read.
     #[error("{0}")]

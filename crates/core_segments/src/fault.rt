@@ -4,7 +4,7 @@ use page_core::{Failed, NoMemory};
 use thiserror::Error;
 
 /// Why a core file is refused.
-#[derive(Clone, Copy, Debug, PartialEq, Eq, Error)]
+#[derive(Clone, Copy, Debug, Error)]
 pub enum Fault {
     /// The file has `at` bytes, and more are wanted.
     #[error("core file ends at byte {at}")]
@@ -57,7 +57,7 @@ pub enum Fault {
 }
 
 /// Why nothing was read.
-#[derive(Clone, Copy, Debug, PartialEq, Eq, Error)]
+#[derive(Clone, Copy, Debug, Error)]
 pub enum Stop {
     #[error("{0}")]
     Fault(Fault),

@@ -3,7 +3,7 @@ use lzo::LzoFault;
 use sig_header::AreaFault;
 
 /// What an info page says of an image's size.
-#[derive(Clone, Copy, Debug, PartialEq, Eq)]
+#[derive(Clone, Copy)]
 pub struct Counts {
     /// How many page frames were saved (`image_pages`).
     pub image_pages: u64,
@@ -12,7 +12,7 @@ pub struct Counts {
 }
 
 /// An entry of a map page. Maps count from 1, entries from 0.
-#[derive(Clone, Copy, Debug, PartialEq, Eq)]
+#[derive(Clone, Copy)]
 pub struct Place {
     pub map: u32,
     /// The block of the map.
@@ -21,7 +21,7 @@ pub struct Place {
 }
 
 /// What is wrong with an image. Number pages count from 1, their words from 0.
-#[derive(Clone, Copy, Debug, PartialEq, Eq)]
+#[derive(Clone, Copy)]
 pub enum Finding {
     /// The header block of the area couldn't be read.
     HeaderUnread(u32),

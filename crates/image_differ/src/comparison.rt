@@ -33,7 +33,7 @@ pub enum Opened {
 }
 
 /// The next result.
-#[derive(Clone, Copy, Debug, PartialEq, Eq)]
+#[derive(Clone, Copy)]
 pub enum Next {
     Difference(Difference),
     /// All differences were reported, and neither image has a finding.

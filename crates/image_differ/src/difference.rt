@@ -11,7 +11,7 @@ pub enum Part {
 }
 
 /// A difference between two images.
-#[derive(Clone, Copy, Debug, PartialEq, Eq)]
+#[derive(Clone, Copy)]
 pub enum Difference {
     /// The flags of their marks.
     Flags { first: u32, second: u32 },

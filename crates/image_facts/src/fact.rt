@@ -29,7 +29,7 @@ pub enum Flag {
 }
 
 /// What one line says of an area and its image.
-#[derive(Clone, Copy, Debug, PartialEq, Eq)]
+#[derive(Clone, Copy)]
 pub enum Fact {
     /// The number of blocks of the file or device.
     Blocks(u32),
