@@ -1,8 +1,8 @@
 ghost use Rattle.std.specs.Prelude.{◌≡◌, ◌+◌, ◌≤◌, ◌++◌, length, map};
 ghost use Rattle.dump_facts.specs.Facts.{extent_fact, identity_facts, layout_facts, region_fact, zone_fact};
 
+use crate::Facts;
 use crate::fact::Fact;
-use crate::facts::Facts;
 use fact_lines::Name;
 use machine::Hardware;
 use zones::Zones;

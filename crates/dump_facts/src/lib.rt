@@ -4,7 +4,6 @@
 
 mod counting;
 mod fact;
-mod facts;
 mod layout;
 mod memory;
 
@@ -13,10 +12,13 @@ ghost use Rattle.definitions.specs.Zones.{top};
 ghost use Rattle.dump_facts.specs.Facts.{facts_of};
 
 pub use fact::Fact;
-pub use facts::Facts;
 use layout::{add_identity, add_layout};
 use machine::Dump;
 use memory::{add_frames, add_images, add_slots};
+
+/// The facts of a dump: at most 16 zones, 64 regions, 64 extents, 64 tasks with page frames and 64 with slots, and 20
+/// more.
+pub type Facts = fact_lines::Facts<Fact, 292>;
 
 /// Returns the facts of a dump.
 #[tactic(auto, unfolding(crate::specs::Facts::facts_of))]

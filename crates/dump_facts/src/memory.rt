@@ -3,9 +3,9 @@ ghost use Rattle.definitions.specs.NumberPages.{meta_of};
 ghost use Rattle.definitions.specs.Zones.{top};
 ghost use Rattle.dump_facts.specs.Facts.{frame_facts, image_facts, images_facts, owned_frames, owned_slots, slot_facts};
 
+use crate::Facts;
 use crate::counting::{Kind, count_frames, count_free_frames, count_slots};
 use crate::fact::Fact;
-use crate::facts::Facts;
 use machine::Dump;
 use page_core::Format;
 use swap_slots::SlotEntry;

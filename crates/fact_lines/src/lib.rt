@@ -1,8 +1,10 @@
-//! The lines of facts: a key, and the numbers of its value or its text.
+//! Facts, and their lines: a key, and the numbers of its value or its text.
 #![tactic(auto)]
 
+mod facts;
 mod name;
 mod values;
 
+pub use facts::Facts;
 pub use name::Name;
 pub use values::{is_printable, put_hex_word, put_name, put_numbers, put_text};

@@ -8,7 +8,7 @@ ghost use Rattle.image_facts.specs.HeaderFacts.{label_facts, mark_facts, swap_fa
 ghost use Rattle.image_facts.specs.declared.fact.Fact.TheVariants.{BadPage};
 
 use crate::fact::{Fact, Flag};
-use crate::facts::Facts;
+use crate::Facts;
 use image_check::mark_in;
 use page_core::Page;
 use sig_header::{Area, AreaKind, Mark, take_back};

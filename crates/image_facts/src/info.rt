@@ -7,7 +7,7 @@ ghost use Rattle.image_facts.specs.InfoFacts.{arch_facts, generic_facts, info_fa
 ghost use Rattle.image_facts.specs.InfoFacts.{x86_facts};
 
 use crate::fact::{Fact, Header};
-use crate::facts::Facts;
+use crate::Facts;
 use fact_lines::{Name, is_printable};
 use image_header::{Ident, decode};
 use page_core::Page;

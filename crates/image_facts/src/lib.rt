@@ -2,7 +2,6 @@
 #![tactic(auto)]
 
 mod fact;
-mod facts;
 mod header;
 mod info;
 mod part;
@@ -10,9 +9,11 @@ mod reading;
 mod runs;
 
 pub use fact::{Fact, Flag, Header};
-pub use facts::Facts;
 pub use header::header_facts;
 pub use info::info_facts;
 pub use part::Part;
 pub use reading::Reading;
 pub use runs::Runs;
+
+/// The facts of a block: at most 630 bad pages, and 16 more of a header block.
+pub type Facts = fact_lines::Facts<Fact, 646>;

@@ -1,45 +1,47 @@
 ghost use Rattle.std.specs.Prelude.{◌≡◌, ◌+◌, ◌<◌, ◌≤◌, [], ◌∷◌, ◌++◌, length};
 
-use crate::fact::Fact;
 use arrayvec::ArrayVec;
 use std::marker::Model;
 
-/// The most facts: 16 zones, 64 regions, 64 extents, 64 tasks with page frames and 64 with slots, and 20 more.
-const MOST_FACTS: usize = 292;
-
-/// The facts of a dump. A contract sees them as a list.
+/// Facts, at most `MOST`. A contract sees them as a list.
 #[derive(Drop)]
-pub struct Facts {
-    facts: ArrayVec<Fact, MOST_FACTS>,
+pub struct Facts<F, const MOST: usize> {
+    facts: ArrayVec<F, MOST>,
 }
 
-impl Model for Facts {
+impl<F, const MOST: usize> Model for Facts<F, MOST> {
     ghost use Rattle.std.specs.Prelude.{List};
-    ghost use Rattle.dump_facts.specs.declared.fact.Fact.{Fact as OneFact};
+    ghost use Rattle.std.specs.Coded.{coded_list};
 
-    ghost Value = { List OneFact };
+    ghost Value = { List F };
+
+    ghost coded = { coded_list F.code };
 
     ghost view = { λ f. f.facts.items };
 }
 
-impl Facts {
-    pub(crate) fn new() -> Facts
+impl<F: Default, const MOST: usize> Facts<F, MOST> {
+    pub fn new() -> Self
         ensures { result ≡ [] }
     {
         Facts {
             facts: ArrayVec::new(),
         }
     }
+}
 
-    pub fn as_slice(&self) -> &[Fact]
+impl<F, const MOST: usize> Facts<F, MOST> {
+    pub fn as_slice(&self) -> &[F]
         ensures { result.now ≡ self.now }
     {
         self.facts.as_slice()
     }
+}
 
+impl<F: Copy + Drop, const MOST: usize> Facts<F, MOST> {
     /// Adds a fact.
-    pub(crate) fn add(&mut self, fact: Fact)
-        requires { length self.old < 292 }
+    pub fn add(&mut self, fact: F)
+        requires { length self.old < MOST }
         ensures added { self.new ≡ self.old ++ fact ∷ [] }
         ensures len { length self.new ≡ length self.old + 1 }
     {
@@ -47,8 +49,8 @@ impl Facts {
     }
 
     /// Adds some facts.
-    pub(crate) fn add_all(&mut self, facts: &[Fact])
-        requires { length self.old + length facts.now ≤ 292 }
+    pub fn add_all(&mut self, facts: &[F])
+        requires { length self.old + length facts.now ≤ MOST }
         ensures added { self.new ≡ self.old ++ facts.now }
         ensures len { length self.new ≡ length self.old + length facts.now }
     {
