@@ -3,8 +3,8 @@ ghost use Rattle.definitions.specs.Disk.{raised, HasRisen};
 ghost use Rattle.std.specs.Fd.{file_raw_fd};
 ghost use Rattle.file_disk.specs.FileDisk.{IsNewFileDisk, IsNoStream};
 
-use crate::in_use::is_in_use;
 use crate::lock::{lock_exclusive, lock_shared};
+use kernel_use::is_in_use;
 use page_core::{Failed, Page};
 use sector_disk::{Disk, Order, Orders};
 use sig_header::AreaKind;

@@ -3,7 +3,6 @@
 
 mod beyond;
 mod file_disk;
-mod in_use;
 mod lock;
 #[cfg(test)]
 mod tests;

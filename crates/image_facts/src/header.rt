@@ -7,8 +7,8 @@ ghost use Rattle.image_facts.specs.HeaderFacts.{area_facts, facts_by_mark, flag_
 ghost use Rattle.image_facts.specs.HeaderFacts.{label_facts, mark_facts, swap_facts};
 ghost use Rattle.image_facts.specs.declared.fact.Fact.TheVariants.{BadPage};
 
-use crate::fact::{Fact, Flag};
 use crate::Facts;
+use crate::fact::{Fact, Flag};
 use image_check::mark_in;
 use page_core::Page;
 use sig_header::{Area, AreaKind, Mark, take_back};

@@ -6,8 +6,8 @@ ghost use Rattle.image_check.specs.Info.{is_version_text};
 ghost use Rattle.image_facts.specs.InfoFacts.{arch_facts, generic_facts, info_facts, start_facts, text_facts};
 ghost use Rattle.image_facts.specs.InfoFacts.{x86_facts};
 
-use crate::fact::{Fact, Header};
 use crate::Facts;
+use crate::fact::{Fact, Header};
 use fact_lines::{Name, is_printable};
 use image_header::{Ident, decode};
 use page_core::Page;

@@ -1,89 +1,9 @@
-//! Whether the kernel uses a file or a block device. The library can't open a device exclusively, so the kernel is
-//! asked: /proc lists its mounts and swap areas, and /sys shows which device holds another (device mapper, RAID).
-use std::alloc::{AllocError, Allocator};
+//! Whether a file or a block device is in use, by what /proc and /sys say.
+use crate::{Device, SwapArea, mounted, swap_area, unescaped};
 use std::fs::{self, Metadata};
 use std::io::{self, ErrorKind};
 use std::os::unix::fs::{FileTypeExt, MetadataExt};
 use std::rt::Files;
-
-/// The number of a block device.
-#[derive(Clone, Copy, PartialEq, Eq, Debug)]
-pub(crate) struct Device {
-    pub major: u32,
-    pub minor: u32,
-}
-
-impl Device {
-    /// Returns the device of an inode, from Linux' 64-bit encoding (`new_encode_dev`, include/linux/kdev_t.h, and
-    /// glibc's `makedev`).
-    pub(crate) fn of(number: u64) -> Device {
-        Device {
-            major: ((number >> 8) & 0xfff) as u32 | ((number >> 32) & 0xffff_f000) as u32,
-            minor: (number & 0xff) as u32 | ((number >> 12) & 0xffff_ff00) as u32,
-        }
-    }
-
-    /// Parses `MAJOR:MINOR`.
-    pub(crate) fn parse(text: &str) -> Option<Device> {
-        let (major, minor) = text.trim().split_once(':')?;
-        Some(Device {
-            major: major.parse().ok()?,
-            minor: minor.parse().ok()?,
-        })
-    }
-}
-
-/// Returns what a line of /proc/self/mountinfo says of the mounted device: the number of the file system, which for
-/// some kinds isn't a device's, and the source, which for some kinds isn't a path.
-pub(crate) fn mounted(line: &str) -> Option<(Device, &str)> {
-    let (places, file_system) = line.split_once(" - ")?;
-    let number = Device::parse(places.split_ascii_whitespace().nth(2)?)?;
-    Some((number, file_system.split_ascii_whitespace().nth(1)?))
-}
-
-/// A swap area of the kernel, by its path in a line of /proc/swaps.
-#[derive(Clone, Copy, PartialEq, Eq, Debug)]
-pub(crate) enum SwapArea<'a> {
-    Device(&'a str),
-    File(&'a str),
-}
-
-/// Returns the swap area of a line of /proc/swaps. The first line has none.
-pub(crate) fn swap_area(line: &str) -> Option<SwapArea<'_>> {
-    let mut words = line.split_ascii_whitespace();
-    let path = words.next()?;
-    match words.next()? {
-        "partition" => Some(SwapArea::Device(path)),
-        "file" => Some(SwapArea::File(path)),
-        _ => None,
-    }
-}
-
-/// Unescapes a path that /proc prints, in which a backslash and three octal digits stand for a space, a tab, a line
-/// feed and a backslash (`mangle_path`, fs/seq_file.c).
-pub(crate) fn unescaped<A: Allocator>(alloc: A, text: &str) -> Result<String<A>, AllocError> {
-    let mut path = String::new(alloc);
-    for (at, piece) in text.split('\\').enumerate() {
-        let (first, rest) = match octal_start(piece) {
-            Some(start) if at > 0 => start,
-            _ if at > 0 => ("\\", piece),
-            _ => ("", piece),
-        };
-        path.push_str(first)?;
-        path.push_str(rest)?;
-    }
-    Ok(path)
-}
-
-/// Returns the character that the first three digits of a piece stand for, and what follows them.
-fn octal_start(piece: &str) -> Option<(&'static str, &str)> {
-    for (digits, byte) in [("040", " "), ("011", "\t"), ("012", "\n"), ("134", "\\")] {
-        if let Some(rest) = piece.strip_prefix(digits) {
-            return Some((byte, rest));
-        }
-    }
-    None
-}
 
 /// A device that is looked for, and the disk that it is or belongs to.
 #[derive(Clone, Copy)]
@@ -262,10 +182,7 @@ fn is_swap_file<R: Files + Alloc>(rt: &R, sought: &Metadata) -> io::Result<bool>
 }
 
 /// Returns whether the kernel uses a block device or a regular file.
-pub(crate) fn is_in_use<R: Files + Alloc + Clone + Drop>(
-    rt: &R,
-    found: &Metadata,
-) -> io::Result<bool> {
+pub fn is_in_use<R: Files + Alloc + Clone + Drop>(rt: &R, found: &Metadata) -> io::Result<bool> {
     if found.file_type().is_block_device() {
         is_used_device(rt, found.rdev())
     } else {
