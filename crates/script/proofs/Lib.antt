@@ -1,3 +1,4 @@
+pub mod BesideLaws
 pub mod DrillLaws
 pub mod NumbersLaws
 pub mod RangesLaws

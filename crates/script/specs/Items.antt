@@ -1,6 +1,9 @@
 -- What each of the functions that read a script's lines returns, and which values fit.
 use Rattle.std.specs.Prelude.{◌≡◌, ℕ, ◌-◌, ◌≤◌, List, Bool, Option, Some, None, Result, Ok, Err, ⊤, ◌+◌, All, [], ◌∷◌}
 use Rattle.std.specs.Prelude.{◌++◌}
+use Rattle.std.specs.List.{find}
+use Rattle.std.specs.Option.{option_map}
+use Rattle.std.specs.Str.{bytes_eq}
 use Rattle.plain_machine.specs.declared.event.Event.{Event}
 use Rattle.plain_machine.specs.Fitting.{IsFitting}
 use Rattle.script.specs.declared.fault.FaultKind.{FaultKind}
@@ -16,6 +19,7 @@ use Rattle.script.specs.Shapes.{◌>>=◌}
 use Rattle.script.specs.Grammar.{row_of, by_rows}
 use Rattle.definitions.specs.Zones.{numbers}
 use Rattle.script.specs.declared.grammar.Setting.TheVariants.{Zone, Last, Bad, Region, Tables, Signature, Extent}
+use denote.Ref.{Bor}
 
 -- the settings after one more setting
 abbrev pub with_setting : Setting → SettingsValue → SettingsValue
@@ -58,6 +62,10 @@ setting_item begun first words = by_rows begun None (row_of first setting_rows) 
 abbrev pub if_found : {A : Type 0} → Option (Row A) → List (List ℕ) → Result (Option A) FaultKind
 if_found None words = Ok None
 if_found (Some row) words = row.reads words >>= λ s. Ok (Some s)
+
+-- what a table has beside a word
+unfoldable pub beside : {A : Type 0} → List (Bor (List ℕ) × A) → List ℕ → Option A
+beside table word = option_map (λ row. row.1) (find (λ row. bytes_eq row.0.now word) table)
 
 -- the row of a first word among those of settings, of a task's requests, of events of the machine, and of what happens
 -- to it from outside

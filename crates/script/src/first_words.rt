@@ -1,7 +1,44 @@
 ghost use Rattle.std.specs.Prelude.{◌≡◌};
 ghost use Rattle.std.specs.Option.{option_map};
-ghost use Rattle.script.specs.Items.{machine_found, outside_found, setting_found, task_found};
+ghost use Rattle.script.specs.Items.{beside, machine_found, outside_found, setting_found, task_found};
 ghost use Rattle.script.specs.Shapes.{asking_row, machine_row, outside_row, setting_row};
+
+const SETTING_WORDS: [(&[u8], SettingWord); 7] = [
+    (b"zone", SettingWord::Zone),
+    (b"area", SettingWord::Area),
+    (b"bad", SettingWord::Bad),
+    (b"region", SettingWord::Region),
+    (b"tables", SettingWord::Tables),
+    (b"hwsig", SettingWord::Hwsig),
+    (b"extent", SettingWord::Extent),
+];
+
+const MACHINE_WORDS: [(&[u8], MachineWord); 7] = [
+    (b"boot", MachineWord::Boot),
+    (b"hibernate", MachineWord::Hibernate),
+    (b"suspend", MachineWord::Suspend),
+    (b"wake", MachineWord::Wake),
+    (b"settle", MachineWord::Settle),
+    (b"shrink", MachineWord::Shrink),
+    (b"resume", MachineWord::Resume),
+];
+
+const OUTSIDE_WORDS: [(&[u8], OutsideWord); 4] = [
+    (b"cut", OutsideWord::Cut),
+    (b"arm", OutsideWord::Arm),
+    (b"step", OutsideWord::Step),
+    (b"steps", OutsideWord::Steps),
+];
+
+const TASK_WORDS: [(&[u8], TaskWord); 7] = [
+    (b"claim", TaskWord::Claim),
+    (b"release", TaskWord::Release),
+    (b"store", TaskWord::Store),
+    (b"show", TaskWord::Show),
+    (b"cache", TaskWord::Cache),
+    (b"out", TaskWord::Out),
+    (b"in", TaskWord::In),
+];
 
 /// The first word of a setting.
 #[derive(Clone, Copy)]
@@ -48,67 +85,43 @@ pub enum TaskWord {
     In,
 }
 
+/// Returns what a table has beside a word.
+#[tactic(auto, unfolding(crate::specs::Items::beside))]
+fn beside<T: Copy>(table: &[(&[u8], T)], word: &[u8]) -> Option<T>
+    ensures { result ≡ beside table.now word.now }
+{
+    for (name, value) in table {
+        if *name == word {
+            return Some(*value);
+        }
+    }
+    None
+}
+
 /// Returns the setting whose first word this is.
-#[tactic(auto, unfolding(crate::specs::Items::setting_found))]
 pub fn setting_word(first: &[u8]) -> Option<SettingWord>
     ensures { setting_found first.now ≡ option_map setting_row result }
 {
-    match first {
-        b"zone" => Some(SettingWord::Zone),
-        b"area" => Some(SettingWord::Area),
-        b"bad" => Some(SettingWord::Bad),
-        b"region" => Some(SettingWord::Region),
-        b"tables" => Some(SettingWord::Tables),
-        b"hwsig" => Some(SettingWord::Hwsig),
-        b"extent" => Some(SettingWord::Extent),
-        _ => None,
-    }
+    beside(&SETTING_WORDS, first)
 }
 
 /// Returns the event of the whole machine whose first word this is.
-#[tactic(auto, unfolding(crate::specs::Items::machine_found))]
 pub fn machine_word(first: &[u8]) -> Option<MachineWord>
     ensures { machine_found first.now ≡ option_map machine_row result }
 {
-    match first {
-        b"boot" => Some(MachineWord::Boot),
-        b"hibernate" => Some(MachineWord::Hibernate),
-        b"suspend" => Some(MachineWord::Suspend),
-        b"wake" => Some(MachineWord::Wake),
-        b"settle" => Some(MachineWord::Settle),
-        b"shrink" => Some(MachineWord::Shrink),
-        b"resume" => Some(MachineWord::Resume),
-        _ => None,
-    }
+    beside(&MACHINE_WORDS, first)
 }
 
 /// Returns the outside event, or the steps, whose first word this is.
-#[tactic(auto, unfolding(crate::specs::Items::outside_found))]
 pub fn outside_word(first: &[u8]) -> Option<OutsideWord>
     ensures { outside_found first.now ≡ option_map outside_row result }
 {
-    match first {
-        b"cut" => Some(OutsideWord::Cut),
-        b"arm" => Some(OutsideWord::Arm),
-        b"step" => Some(OutsideWord::Step),
-        b"steps" => Some(OutsideWord::Steps),
-        _ => None,
-    }
+    beside(&OUTSIDE_WORDS, first)
 }
 
 /// Returns the task's request whose first word this is.
-#[tactic(auto, unfolding(crate::specs::Items::task_found))]
 pub fn task_word(first: &[u8]) -> Option<TaskWord>
     ensures { task_found first.now ≡ option_map asking_row result }
 {
-    match first {
-        b"claim" => Some(TaskWord::Claim),
-        b"release" => Some(TaskWord::Release),
-        b"store" => Some(TaskWord::Store),
-        b"show" => Some(TaskWord::Show),
-        b"cache" => Some(TaskWord::Cache),
-        b"out" => Some(TaskWord::Out),
-        b"in" => Some(TaskWord::In),
-        _ => None,
-    }
+    beside(&TASK_WORDS, first)
 }
