@@ -21,12 +21,11 @@ found_told frame page found.NoPage = refused_told (line (codes "no page " ++ dec
 found_told frame page found.Page = record { status = Done; out = page; note = [] }
 
 -- either what was found of the page frame is printed, or that memory was refused
-pub data WritesPage (content : Option Content) (blocks header before now : ℕ) (told : Told) (frame : ℕ)
-    (status : Status)
-    (out out' note' : SinkView) : Type 0 where
+pub data WritesPage (frame : ℕ) (content : Option Content) (blocks header before now : ℕ) (told : Told)
+    (status : Status) (out out' note' : SinkView) : Type 0 where
   ended : (what : Found) (page : List ℕ) (then : Told) (noted : SinkView) →
       Finds content blocks header before now told then frame page what → IsNoted then noted →
       IsTold (found_told frame page what) status out out' noted note' →
-      WritesPage content blocks header before now told frame status out out' note'
+      WritesPage frame content blocks header before now told status out out' note'
   no_memory : (noted : SinkView) → IsNoted told noted → IsTold memory_told status out out' noted note' →
-      WritesPage content blocks header before now told frame status out out' note'
+      WritesPage frame content blocks header before now told status out out' note'

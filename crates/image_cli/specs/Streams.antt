@@ -25,15 +25,15 @@ streamed_told streamed.Whole = record { status = Done; out = []; note = [] }
 -- Either the image was written, or a part of it, and that is reported; or the output failed within its stream; or
 -- memory was refused before.
 pub data Streams (content : Option Content) (blocks header before now : ℕ) (told : Told) (status : Status)
-    (out out' note note' : SinkView) : Type 0 where
+    (out out' note' : SinkView) : Type 0 where
   ended : (what : Streamed) (then : Told) (written noted : SinkView) →
       IsStreamed content blocks header before now told then out.taken written.taken what →
       out.faults ≤ written.faults → IsNoted then noted →
       IsTold (streamed_told what) status written out' noted note' →
-      Streams content blocks header before now told status out out' note note'
-  cut_short : status ≡ Stream → IsFront content blocks header out.taken out'.taken →
-      HasRisen out.faults out'.faults → IsTried sink_note note note' →
-      Streams content blocks header before now told status out out' note note'
+      Streams content blocks header before now told status out out' note'
+  cut_short : (noted : SinkView) → status ≡ Stream → IsFront content blocks header out.taken out'.taken →
+      HasRisen out.faults out'.faults → IsNoted told noted → IsTried sink_note noted note' →
+      Streams content blocks header before now told status out out' note'
   no_memory : (written noted : SinkView) → written.taken ≡ out.taken → out.faults ≤ written.faults →
       IsNoted told noted → IsTold memory_told status written out' noted note' →
-      Streams content blocks header before now told status out out' note note'
+      Streams content blocks header before now told status out out' note'

@@ -1,6 +1,8 @@
-ghost use Rattle.std.specs.Prelude.{◌≡◌, ◌≢◌, ◌⊎◌, ◌≤◌, List, [], Some, false, length, min};
-ghost use Rattle.definitions.specs.Disk.{HasRisen, last_count};
+ghost use Rattle.std.specs.Prelude.{◌≡◌, List, [], Some, false, length, min};
+ghost use Rattle.definitions.specs.Disk.{last_count};
 ghost use Rattle.command_kit.specs.AnswerOf.{told_by};
+ghost use Rattle.command_kit.specs.Causes.{HasCause, SinksFail};
+ghost use Rattle.command_kit.specs.OnlyRead.{IsOnlyRead};
 ghost use Rattle.command_kit.specs.Told.{IsTold};
 ghost use Rattle.command_kit.specs.View.{SinkView, sink_view};
 ghost use Rattle.image_check.specs.Told.{Tells};
@@ -38,14 +40,9 @@ pub fn check<D: Disk, O: Sink, N: Sink>(
         (sink_view O.Sink out.new.sink)
         (sink_view N.Sink note.old)
         (sink_view N.Sink note.new) }
-    ensures stream { result ≡ Status.Stream →
-        HasRisen (O.faults out.old.sink) (O.faults out.new.sink) ⊎ HasRisen (N.faults note.old) (N.faults note.new) }
-    ensures device { result ≢ Status.Device }
-    ensures words { result ≢ Status.Words }
-    ensures content { D.content disk.new ≡ D.content disk.old }
-    ensures faults { D.faults disk.old ≤ D.faults disk.new }
-    ensures orders { D.orders disk.new ≡ D.orders disk.old }
-    ensures blocks { D.block_count disk.new ≡ D.block_count disk.old }
+    ensures cause { HasCause (SinksFail (sink_view O.Sink out.old.sink) (sink_view O.Sink out.new.sink)
+        (sink_view N.Sink note.old) (sink_view N.Sink note.new)) ⊥ result }
+    ensures disk { IsOnlyRead D.Disk disk.old disk.new }
 {
     match image_check::check(alloc, disk, header, out) {
         Ok(Outcome::NoImage) => tell(Status::Refused, b"no image\n", b"", &mut out.sink, note),
@@ -69,14 +66,9 @@ pub fn check_json<D: Disk, O: Sink, N: Sink>(
         (sink_view O.Sink out.new)
         (sink_view N.Sink note.old)
         (sink_view N.Sink note.new) }
-    ensures stream { result ≡ Status.Stream →
-        HasRisen (O.faults out.old) (O.faults out.new) ⊎ HasRisen (N.faults note.old) (N.faults note.new) }
-    ensures device { result ≢ Status.Device }
-    ensures words { result ≢ Status.Words }
-    ensures content { D.content disk.new ≡ D.content disk.old }
-    ensures faults { D.faults disk.old ≤ D.faults disk.new }
-    ensures orders { D.orders disk.new ≡ D.orders disk.old }
-    ensures blocks { D.block_count disk.new ≡ D.block_count disk.old }
+    ensures cause { HasCause (SinksFail (sink_view O.Sink out.old) (sink_view O.Sink out.new)
+        (sink_view N.Sink note.old) (sink_view N.Sink note.new)) ⊥ result }
+    ensures disk { IsOnlyRead D.Disk disk.old disk.new }
 {
     tell_checked(&image_json::check(alloc, disk, header), out, note)
 }
@@ -94,10 +86,8 @@ pub fn sum_up_json<O: Sink, N: Sink>(
         (sink_view O.Sink out.new)
         (sink_view N.Sink note.old)
         (sink_view N.Sink note.new) }
-    ensures stream { result ≡ Status.Stream →
-        HasRisen (O.faults out.old) (O.faults out.new) ⊎ HasRisen (N.faults note.old) (N.faults note.new) }
-    ensures device { result ≢ Status.Device }
-    ensures words { result ≢ Status.Words }
+    ensures cause { HasCause (SinksFail (sink_view O.Sink out.old) (sink_view O.Sink out.new)
+        (sink_view N.Sink note.old) (sink_view N.Sink note.new)) ⊥ result }
 {
     tell_checked(&image_json::sum_up(alloc, findings), out, note)
 }
@@ -113,10 +103,8 @@ fn tell_checked<O: Sink, N: Sink>(
         (sink_view O.Sink out.new)
         (sink_view N.Sink note.old)
         (sink_view N.Sink note.new) }
-    ensures stream { result ≡ Status.Stream →
-        HasRisen (O.faults out.old) (O.faults out.new) ⊎ HasRisen (N.faults note.old) (N.faults note.new) }
-    ensures device { result ≢ Status.Device }
-    ensures words { result ≢ Status.Words }
+    ensures cause { HasCause (SinksFail (sink_view O.Sink out.old) (sink_view O.Sink out.new)
+        (sink_view N.Sink note.old) (sink_view N.Sink note.new)) ⊥ result }
 {
     match checked {
         Ok(checked) => {
@@ -129,9 +117,7 @@ fn tell_checked<O: Sink, N: Sink>(
 
 fn status_whole(whole: bool) -> Status
     ensures status { result ≡ status_whole whole }
-    ensures stream { result ≢ Status.Stream }
-    ensures device { result ≢ Status.Device }
-    ensures words { result ≢ Status.Words }
+    ensures cause { HasCause ⊥ ⊥ result }
 {
     if whole { Status::Done } else { Status::Refused }
 }
@@ -143,11 +129,10 @@ pub fn sum_up<O: Sink, N: Sink>(out: &mut Printer<O>, note: &mut N) -> Status
         (sink_view O.Sink out.new.sink)
         (sink_view N.Sink note.old)
         (sink_view N.Sink note.new) }
-    ensures stream { (found : List Finding) (start : SinkView) → IsSoFar found start (printer_view O.Sink out.old) →
-        result ≡ Status.Stream → HasRisen start.faults (O.faults out.new.sink)
-        ⊎ HasRisen (N.faults note.old) (N.faults note.new) }
-    ensures device { result ≢ Status.Device }
-    ensures words { result ≢ Status.Words }
+    ensures cause { HasCause
+        ((found : List Finding) (start : SinkView) → IsSoFar found start (printer_view O.Sink out.old) →
+        SinksFail start (sink_view O.Sink out.new.sink) (sink_view N.Sink note.old) (sink_view N.Sink note.new))
+        ⊥ result }
 {
     if out.failed {
         return cut_short(note);
@@ -159,9 +144,7 @@ pub fn sum_up<O: Sink, N: Sink>(out: &mut Printer<O>, note: &mut N) -> Status
 fn summary(count: u64) -> Answer
     ensures told { (found : List Finding) → count ≡ min (length found) last_count →
         told_by result ≡ record { status = status_of found; out = last_line found; note = [] } }
-    ensures stream { result.status ≢ Status.Stream }
-    ensures device { result.status ≢ Status.Device }
-    ensures words { result.status ≢ Status.Words }
+    ensures cause { HasCause ⊥ ⊥ result.status }
 {
     let mut out = Line::new();
     let status = if count == 0 {

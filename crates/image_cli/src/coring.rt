@@ -1,5 +1,6 @@
-ghost use Rattle.std.specs.Prelude.{◌≡◌, ◌≢◌, ◌⊎◌, ◌≤◌};
-ghost use Rattle.definitions.specs.Disk.{HasRisen};
+ghost use Rattle.std.specs.Prelude.{◌≡◌, ◌⊎◌};
+ghost use Rattle.command_kit.specs.Causes.{HasCause, SinksFail};
+ghost use Rattle.command_kit.specs.OnlyRead.{IsOnlyRead};
 ghost use Rattle.command_kit.specs.View.{sink_view};
 ghost use Rattle.image_cli.specs.Cores.{TellsStop, WritesCore};
 ghost use Rattle.image_cli.specs.Printed.{printer_view};
@@ -27,14 +28,9 @@ pub fn core<D: Disk, O: Sink, N: Sink>(
         (sink_view O.Sink out.old)
         (sink_view O.Sink out.new)
         (sink_view N.Sink note.new.sink) }
-    ensures stream { result ≡ Status.Stream →
-        HasRisen (O.faults out.old) (O.faults out.new) ⊎ HasRisen (N.faults note.old.sink) (N.faults note.new.sink) }
-    ensures device { result ≢ Status.Device }
-    ensures words { result ≢ Status.Words }
-    ensures content { D.content disk.new ≡ D.content disk.old }
-    ensures faults { D.faults disk.old ≤ D.faults disk.new }
-    ensures orders { D.orders disk.new ≡ D.orders disk.old }
-    ensures blocks { D.block_count disk.new ≡ D.block_count disk.old }
+    ensures cause { HasCause (SinksFail (sink_view O.Sink out.old) (sink_view O.Sink out.new)
+        (sink_view N.Sink note.old.sink) (sink_view N.Sink note.new.sink)) ⊥ result }
+    ensures disk { IsOnlyRead D.Disk disk.old disk.new }
 {
     match write_core(alloc, disk, header, out, note) {
         Ok(()) => tell(Status::Done, b"", b"", out, &mut note.sink),
@@ -49,10 +45,8 @@ fn tell_stop<O: Sink, N: Sink>(why: Stop, out: &mut O, note: &mut N) -> Status
         (sink_view O.Sink out.new)
         (sink_view N.Sink note.old)
         (sink_view N.Sink note.new) }
-    ensures stream { result ≡ Status.Stream → (why ≡ stop.Sink)
-        ⊎ (HasRisen (O.faults out.old) (O.faults out.new) ⊎ HasRisen (N.faults note.old) (N.faults note.new)) }
-    ensures device { result ≢ Status.Device }
-    ensures words { result ≢ Status.Words }
+    ensures cause { HasCause ((why ≡ stop.Sink) ⊎ SinksFail (sink_view O.Sink out.old) (sink_view O.Sink out.new)
+        (sink_view N.Sink note.old) (sink_view N.Sink note.new)) ⊥ result }
 {
     match why {
         Stop::NoImage => tell(Status::Refused, b"", b"no image\n", out, note),

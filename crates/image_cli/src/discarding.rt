@@ -1,6 +1,7 @@
-ghost use Rattle.std.specs.Prelude.{◌≡◌, ◌≢◌, ◌⊎◌, ◌≤◌, IfSome, IsTrue, Result};
+ghost use Rattle.std.specs.Prelude.{◌≡◌, ◌≢◌, ◌≤◌, IfSome, IsTrue, Result};
 ghost use Rattle.definitions.specs.Disk.{DiskImage, HasRisen};
 ghost use Rattle.command_kit.specs.AnswerOf.{told_by};
+ghost use Rattle.command_kit.specs.Causes.{HasCause, SinksFail};
 ghost use Rattle.command_kit.specs.View.{sink_view};
 ghost use Rattle.image_discard.specs.Crashes.{IsCrash};
 ghost use Rattle.image_discard.specs.Discards.{LeavesNoImage};
@@ -26,10 +27,9 @@ pub fn discard<D: Disk, O: Sink, N: Sink>(
     ensures unmarked { result ≡ Status.Done → IfSome (D.content disk.new) (LeavesNoImage header) }
     ensures crash { IsTrue (D.tells_moments disk.old) → (v : DiskImage) → D.left_since disk.new (D.moment disk.old) v →
         IfSome (D.content disk.old) (λ held. IsCrash header held v) }
-    ensures stream { result ≡ Status.Stream →
-        HasRisen (O.faults out.old) (O.faults out.new) ⊎ HasRisen (N.faults note.old) (N.faults note.new) }
-    ensures device { result ≡ Status.Device → HasRisen (D.faults disk.old) (D.faults disk.new) }
-    ensures words { result ≢ Status.Words }
+    ensures cause { HasCause (SinksFail (sink_view O.Sink out.old) (sink_view O.Sink out.new)
+        (sink_view N.Sink note.old) (sink_view N.Sink note.new))
+        (HasRisen (D.faults disk.old) (D.faults disk.new)) result }
     ensures faults { D.faults disk.old ≤ D.faults disk.new }
     ensures orders { D.orders disk.new ≡ D.orders disk.old }
     ensures blocks { D.block_count disk.new ≡ D.block_count disk.old }

@@ -1,8 +1,8 @@
-ghost use Rattle.std.specs.Prelude.{◌≡◌, ◌≢◌, ◌⊎◌, ◌≤◌, ◌++◌, codes, decimal, length};
-ghost use Rattle.definitions.specs.Disk.{HasRisen};
-ghost use Rattle.command_kit.specs.Told.{line};
+ghost use Rattle.std.specs.Prelude.{◌≡◌, ◌≤◌, ◌++◌, codes, decimal, length};
 ghost use Rattle.command_kit.specs.AnswerOf.{told_by};
-ghost use Rattle.command_kit.specs.Told.{IsTold};
+ghost use Rattle.command_kit.specs.Causes.{HasCause, SinksFail};
+ghost use Rattle.command_kit.specs.OnlyRead.{IsOnlyRead};
+ghost use Rattle.command_kit.specs.Told.{IsTold, line};
 ghost use Rattle.command_kit.specs.View.{sink_view};
 ghost use Rattle.image_cli.specs.Pages.{WritesPage, found_told};
 ghost use Rattle.image_cli.specs.Printed.{printer_view};
@@ -31,16 +31,10 @@ pub fn stream<D: Disk, O: Sink, N: Sink>(
         (D.faults disk.old) (D.faults disk.new) (printer_view N.Sink note.old) result
         (sink_view O.Sink out.old)
         (sink_view O.Sink out.new)
-        (sink_view N.Sink note.old.sink)
         (sink_view N.Sink note.new.sink) }
-    ensures stream { result ≡ Status.Stream →
-        HasRisen (O.faults out.old) (O.faults out.new) ⊎ HasRisen (N.faults note.old.sink) (N.faults note.new.sink) }
-    ensures device { result ≢ Status.Device }
-    ensures words { result ≢ Status.Words }
-    ensures content { D.content disk.new ≡ D.content disk.old }
-    ensures faults { D.faults disk.old ≤ D.faults disk.new }
-    ensures orders { D.orders disk.new ≡ D.orders disk.old }
-    ensures blocks { D.block_count disk.new ≡ D.block_count disk.old }
+    ensures cause { HasCause (SinksFail (sink_view O.Sink out.old) (sink_view O.Sink out.new)
+        (sink_view N.Sink note.old.sink) (sink_view N.Sink note.new.sink)) ⊥ result }
+    ensures disk { IsOnlyRead D.Disk disk.old disk.new }
 {
     match image_stream::stream(alloc, disk, header, out, note) {
         Ok(streamed) => streamed_told(streamed).tell(out, &mut note.sink),
@@ -59,19 +53,14 @@ pub fn page<D: Disk, O: Sink, N: Sink>(
     out: &mut O,
     note: &mut Printer<N>,
 ) -> Status
-    ensures outcome { WritesPage (D.content disk.old) (D.block_count disk.old) header
-        (D.faults disk.old) (D.faults disk.new) (printer_view N.Sink note.old) frame result
+    ensures outcome { WritesPage frame (D.content disk.old) (D.block_count disk.old) header
+        (D.faults disk.old) (D.faults disk.new) (printer_view N.Sink note.old) result
         (sink_view O.Sink out.old)
         (sink_view O.Sink out.new)
         (sink_view N.Sink note.new.sink) }
-    ensures stream { result ≡ Status.Stream →
-        HasRisen (O.faults out.old) (O.faults out.new) ⊎ HasRisen (N.faults note.old.sink) (N.faults note.new.sink) }
-    ensures device { result ≢ Status.Device }
-    ensures words { result ≢ Status.Words }
-    ensures content { D.content disk.new ≡ D.content disk.old }
-    ensures faults { D.faults disk.old ≤ D.faults disk.new }
-    ensures orders { D.orders disk.new ≡ D.orders disk.old }
-    ensures blocks { D.block_count disk.new ≡ D.block_count disk.old }
+    ensures cause { HasCause (SinksFail (sink_view O.Sink out.old) (sink_view O.Sink out.new)
+        (sink_view N.Sink note.old.sink) (sink_view N.Sink note.new.sink)) ⊥ result }
+    ensures disk { IsOnlyRead D.Disk disk.old disk.new }
 {
     let mut page = Page::zero();
     match page_of(alloc, disk, header, frame, &mut page, note) {
@@ -83,9 +72,7 @@ pub fn page<D: Disk, O: Sink, N: Sink>(
 /// Returns what is printed at the end of a stream.
 fn streamed_told(streamed: Streamed) -> Answer
     ensures told { told_by result ≡ streamed_told streamed }
-    ensures stream { result.status ≢ Status.Stream }
-    ensures device { result.status ≢ Status.Device }
-    ensures words { result.status ≢ Status.Words }
+    ensures cause { HasCause ⊥ ⊥ result.status }
 {
     match streamed {
         Streamed::Whole => Answer {
@@ -126,10 +113,8 @@ fn tell_found<O: Sink, N: Sink>(
         (sink_view O.Sink out.new)
         (sink_view N.Sink note.old)
         (sink_view N.Sink note.new) }
-    ensures stream { result ≡ Status.Stream →
-        HasRisen (O.faults out.old) (O.faults out.new) ⊎ HasRisen (N.faults note.old) (N.faults note.new) }
-    ensures device { result ≢ Status.Device }
-    ensures words { result ≢ Status.Words }
+    ensures cause { HasCause (SinksFail (sink_view O.Sink out.old) (sink_view O.Sink out.new)
+        (sink_view N.Sink note.old) (sink_view N.Sink note.new)) ⊥ result }
 {
     match found {
         Found::Page => tell(Status::Done, page.as_bytes(), b"", out, note),

@@ -1,7 +1,9 @@
 use Rattle.std.proofs.Common.{◌≡◌, ℕ, List, Bool, false, Option, Some, None, refl, ap₂, subst, ◌∙◌, inl, inr}
 use Rattle.command_kit.specs.Told.{memory_told, RunResult}
 use Rattle.command_kit.specs.Told.{IsTold}
+use Rattle.command_kit.specs.Causes.{SinksFail}
 use Rattle.command_kit.specs.View.{SinkView, sink_view}
+use Rattle.command_kit.proofs.Causes.{cause_since}
 use Rattle.image_check.specs.Checked.{Finds}
 use Rattle.image_check.specs.Told.{Told, Tells}
 use Rattle.image_check.specs.declared.finding.Finding.{Finding}
@@ -57,14 +59,17 @@ returns-in-Ok-Checked-clause-outcome g c =
       ),
     )
 
-pub returns-in-Ok-Checked-clause-stream : goal.returns-in-Ok-Checked-clause-stream
-returns-in-Ok-Checked-clause-stream g c = λ e.
+pub returns-in-Ok-Checked-clause-cause : goal.returns-in-Ok-Checked-clause-cause
+returns-in-Ok-Checked-clause-cause g c =
     let old = printer_view g.O.Sink c.args.out.now in
     let mid = printer_view g.O.Sink c.check.new.report in
     let start = sink_view g.O.Sink c.args.out.now.sink in
     let all = c.in-Ok-Checked.ensures.checked in
     let found = all_found all.0 old mid c.in-Ok-Checked.field-0 c.in-Ok-Checked.field-0-is all.1.1 in
-    c.sum_up.ensures.stream found.0 start (fresh found.0 start old mid refl refl c.requires.none c.requires.sound found.1.1) e
+    let last = sink_view g.O.Sink c.sum_up.new.out.sink in
+    let note = sink_view g.N.Sink c.args.note.now in
+    let noted = sink_view g.N.Sink c.sum_up.new.note in
+    cause_since {longer = SinksFail start last note noted} c.sum_up.result (λ fails. fails found.0 start (fresh found.0 start old mid refl refl c.requires.none c.requires.sound found.1.1)) (λ (never : ⊥). never) c.sum_up.ensures.cause
 
 pub returns-in-Err-clause-outcome : goal.returns-in-Err-clause-outcome
 returns-in-Err-clause-outcome g c =

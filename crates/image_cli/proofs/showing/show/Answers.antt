@@ -8,6 +8,7 @@ use Rattle.command_kit.specs.declared.status.Status.{Status}
 use Rattle.image_show.specs.Forms.{Written}
 use Rattle.image_show.specs.Texts.{text_of}
 use Rattle.image_cli.specs.Shows.{status_shown}
+use Rattle.image_cli.proofs.Causes.{stream_blames}
 use Rattle.image_cli.proofs.Shown.{lines_are, only_risen}
 use Rattle.image_cli.proofs.Summing.{told_after}
 use Rattle.image_cli.proofs.showing.show.Goals as goal
@@ -64,6 +65,7 @@ returns-in-Err-Write-clause-outcome g c =
       ),
     ))
 
-pub returns-in-Err-Write-clause-stream : goal.returns-in-Err-Write-clause-stream
-returns-in-Err-Write-clause-stream g c = λ e.
-    inl (only_risen (g.O.Sink.faults c.args.out.now) (g.O.Sink.faults c.show.new.form) (c.in-Err-Write.ensures.cause (ap Err c.in-Err-Write.field-0-is)))
+pub returns-in-Err-Write-clause-cause : goal.returns-in-Err-Write-clause-cause
+returns-in-Err-Write-clause-cause g c =
+    stream_blames c.cut_short.result c.cut_short.ensures.status
+    (inl (only_risen (g.O.Sink.faults c.args.out.now) (g.O.Sink.faults c.show.new.form) (c.in-Err-Write.ensures.cause (ap Err c.in-Err-Write.field-0-is))))
