@@ -1,18 +1,15 @@
 -- From what a command does with the plain image to what it does with one that may be compressed.
-use Rattle.std.proofs.Common.{◌≡◌, ◌⊎◌, ℕ, ◌≤◌, false, Bool, List, [], Option, IfSome, sym, ap, ap₂, subst, ◌∙◌, inl, inr, arith}
-use Rattle.definitions.specs.Disk.{Content, HasRisen, as_it_reads}
-use Rattle.definitions.specs.Streams.{TakesAll, TakesFront}
+use Rattle.std.proofs.Common.{◌≡◌, ℕ, ◌≤◌, false, Bool, List, [], Option, IfSome, sym, ap, ap₂, subst, ◌∙◌, inl, inr, arith}
+use Rattle.definitions.specs.Disk.{Content, as_it_reads}
+use Rattle.definitions.specs.Streams.{TakesAll}
 use Rattle.command_kit.specs.Told.{RunResult, memory_told}
-use Rattle.command_kit.specs.Told.{FailsToPrint, IsPrinted, IsTold, IsTried, sink_note}
+use Rattle.command_kit.specs.Told.{IsTold}
 use Rattle.command_kit.specs.View.{SinkView}
 use Rattle.command_kit.specs.declared.status.Status.{Status}
 use Rattle.image_check.specs.Told.{Told, Tells}
 use Rattle.image_check.specs.declared.finding.Finding.{Finding}
 use Rattle.image_cli.specs.Checks.{Checks, found_told}
-use Rattle.image_cli.specs.Cores.{WritesCore}
-use Rattle.image_cli.specs.Pages.{WritesPage}
 use Rattle.image_cli.specs.Printed.{IsSoFar}
-use Rattle.image_cli.specs.Streams.{Streams, ended, cut_short, no_memory}
 use Rattle.image_cli.proofs.Summing.{later, told_after}
 use Rattle.byte_streams.proofs.Taken.{TakesAll-none}
 use Rattle.image_units.specs.Index.{IsIndexed}
@@ -25,7 +22,7 @@ use Rattle.expanded_disk.specs.Laid.{blocks_for, expanded}
 use Rattle.expanded_disk.proofs.Loads.{for_some}
 use Rattle.expanded_cli.specs.Runs.{RunsAny, RunsExpanded, plain, unpacked, ran, lacks}
 use Rattle.expanded_cli.specs.Runs as ways
-use Rattle.expanded_cli.specs.Streams.{NotesMemory}
+use Rattle.expanded_cli.specs.Streams.{NotesMemory, Writes}
 
 abbrev pub Command : Type 1
 Command = Option Content → (blocks header before now : ℕ) → Type 0
@@ -79,40 +76,15 @@ pub told_since : (told : RunResult) (status : Status) (old mid new note note' : 
 told_since told status old mid new note note' taken faults h =
     told_after [] told status old mid new note note' (subst (λ (x : Option (List ℕ)). TakesAll [] old.taken x) (sym taken) (TakesAll-none old.taken)) (omega (arith, faults)) h
 
-printed_since : (text : List ℕ) (old mid new : SinkView) → mid.taken ≡ old.taken → IsPrinted text mid new → IsPrinted text old new
-printed_since text old mid new taken h = record { whole = subst (λ (x : Option (List ℕ)). TakesAll text x new.taken) taken h.whole; flushed = h.flushed }
-
-fails_since : (text : List ℕ) (old mid new : SinkView) → mid.taken ≡ old.taken → mid.faults ≡ old.faults → FailsToPrint text mid new → FailsToPrint text old new
-fails_since text old mid new taken faults h = record {
-  front = subst (λ (x : Option (List ℕ)). TakesFront text x new.taken) taken h.front;
-  risen = subst (λ (n : ℕ). HasRisen n new.faults) faults h.risen;
-}
-
-tried_since : (text : List ℕ) (old mid new : SinkView) → mid.taken ≡ old.taken → mid.faults ≡ old.faults → IsTried text mid new → IsTried text old new
-tried_since text old mid new taken faults (inl whole) = inl (printed_since text old mid new taken whole)
-tried_since text old mid new taken faults (inr fails) = inr (fails_since text old mid new taken faults fails)
-
 pub checks_since : (status : Status) (old mid new note note' : SinkView) → mid.taken ≡ old.taken → mid.faults ≡ old.faults →
     Alike (λ c n h b f. Checks c n h b f status mid new note note') (λ c n h b f. Checks c n h b f status old new note note')
 checks_since status old mid new note note' taken faults c n h b f (inl memory) = inl (told_since memory_told status old mid new note note' taken faults memory)
 checks_since status old mid new note note' taken faults c n h b f (inr (found, (finds, told))) =
     inr (found, (finds, told_since (found_told found) status old mid new note note' taken faults told))
 
-pub streams_since : (told then : Told) (status : Status) (out out' old mid new : SinkView) → then ≡ told → mid.taken ≡ old.taken → mid.faults ≡ old.faults →
-    Alike (λ c n h b f. Streams c n h b f then status out out' mid new) (λ c n h b f. Streams c n h b f told status out out' old new)
-streams_since told then status out out' old mid new same taken faults c n h b f runs = since (subst (λ (t : Told). Streams c n h b f t status out out' mid new) same runs) where
-  since : Streams c n h b f told status out out' mid new → Streams c n h b f told status out out' old new
-  since (ended what last written noted streamed le is tells) = ended what last written noted streamed le is tells
-  since (cut_short is front risen tried) = cut_short is front risen (tried_since sink_note old mid new taken faults tried)
-  since (no_memory written noted same le is tells) = no_memory written noted same le is tells
-
-pub pages_since : (told then : Told) (frame : ℕ) (status : Status) (out out' note' : SinkView) → then ≡ told →
-    Alike (λ c n h b f. WritesPage c n h b f then frame status out out' note') (λ c n h b f. WritesPage c n h b f told frame status out out' note')
-pages_since told then frame status out out' note' same c n h b f runs = subst (λ (t : Told). WritesPage c n h b f t frame status out out' note') same runs
-
-pub cores_since : (told then : Told) (status : Status) (out out' note' : SinkView) → then ≡ told →
-    Alike (λ c n h b f. WritesCore c n h b f then status out out' note') (λ c n h b f. WritesCore c n h b f told status out out' note')
-cores_since told then status out out' note' same c n h b f runs = subst (λ (t : Told). WritesCore c n h b f t status out out' note') same runs
+pub does_since : (Does : Writes) (told then : Told) (status : Status) (out out' note' : SinkView) → then ≡ told →
+    Alike (λ c n h b f. Does c n h b f then status out out' note') (λ c n h b f. Does c n h b f told status out out' note')
+does_since Does told then status out out' note' same c n h b f runs = subst (λ (t : Told). Does c n h b f t status out out' note') same runs
 
 pub memory_since : (told then : Told) (status : Status) (out out' note' : SinkView) → then ≡ told → NotesMemory then status out out' note' → NotesMemory told status out out' note'
 memory_since told then status out out' note' same notes = subst (λ (t : Told). NotesMemory t status out out' note') same notes
@@ -139,13 +111,3 @@ so_far found start old new text faults count failed h =
     ap₂ (λ (t : Option (List ℕ)) (f : ℕ). record { text = t; count = old.count; failed = old.failed; faults = f }) text faults
     ∙ ap₂ (λ (n : ℕ) (b : Bool). record { text = start.taken; count = n; failed = b; faults = start.faults }) count failed in
     subst (λ (t : Told). Tells found t new) same h
-
--- a fault of a sink in a later call
-
-pub risen_since : (before then now : ℕ) (other : Type 0) → then ≡ before → HasRisen then now ⊎ other → HasRisen before now ⊎ other
-risen_since before then now other same (inl risen) = inl (subst (λ (n : ℕ). HasRisen n now) same risen)
-risen_since before then now other same (inr risen) = inr risen
-
-pub noted_since : (before then now : ℕ) (other : Type 0) → before ≤ then → other ⊎ HasRisen then now → other ⊎ HasRisen before now
-noted_since before then now other le (inl risen) = inl risen
-noted_since before then now other le (inr risen) = inr (later before then now le risen)

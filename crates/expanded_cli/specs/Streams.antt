@@ -8,10 +8,8 @@ use Rattle.command_kit.specs.View.{SinkView}
 use Rattle.command_kit.specs.declared.status.Status.{Status}
 use Rattle.image_check.specs.Told.{Told, Tells}
 use Rattle.image_check.specs.declared.finding.Finding.{Finding}
-use Rattle.image_cli.specs.Cores.{WritesCore}
 use Rattle.image_cli.specs.Notes.{IsNoted}
-use Rattle.image_cli.specs.Pages.{WritesPage}
-use Rattle.image_cli.specs.Streams.{Streams, refused_told}
+use Rattle.image_cli.specs.Streams.{refused_told}
 use Rattle.image_units.specs.declared.index.Index.{Index}
 use Rattle.expanded_cli.specs.Runs.{RunsAny, RunsExpanded}
 
@@ -30,41 +28,21 @@ pub record NotesMemory (told : Told) (status : Status) (out out' note' : SinkVie
   pub is_noted : IsNoted told noted
   pub ends : IsTold memory_told status out out' noted note'
 
-abbrev pub StreamsAny : Option Content → (blocks header before now : ℕ) → Told → Status →
-    (out out' note note' : SinkView) → Type 0
-StreamsAny content blocks header before now told status out out' note note' =
-    RunsAny (λ c n h b f. Streams c n h b f told status out out' note note')
+-- what a command does: of the disk's content, its size, the header block and its failures before and after; of what was
+-- noted before; with this status; and what it writes and notes
+abbrev pub Writes : Type 1
+Writes = Option Content → (blocks header before now : ℕ) → Told → Status → (out out' note' : SinkView) → Type 0
+
+-- a command that does this with a plain image, run for an image that may be compressed
+abbrev pub NotesAny : Writes → Writes
+NotesAny Does content blocks header before now told status out out' note' =
+    RunsAny (λ c n h b f. Does c n h b f told status out out' note')
     (λ found. NotesFindings found told status out out' note') (NotesMemory told status out out' note')
     content blocks header before now
 
-abbrev pub StreamsExpanded : Option Content → (header : ℕ) → Index → (before now : ℕ) → Told → Status →
-    (out out' note note' : SinkView) → Type 0
-StreamsExpanded content header index before now told status out out' note note' =
-    RunsExpanded (λ c n h b f. Streams c n h b f told status out out' note note')
-    (NotesMemory told status out out' note') content header index before now
-
-abbrev pub WritesPageAny : Option Content → (blocks header before now : ℕ) → Told → (frame : ℕ) → Status →
+-- only what it does with the plain image that a compressed one expands to
+abbrev pub NotesExpanded : Writes → Option Content → (header : ℕ) → Index → (before now : ℕ) → Told → Status →
     (out out' note' : SinkView) → Type 0
-WritesPageAny content blocks header before now told frame status out out' note' =
-    RunsAny (λ c n h b f. WritesPage c n h b f told frame status out out' note')
-    (λ found. NotesFindings found told status out out' note') (NotesMemory told status out out' note')
-    content blocks header before now
-
-abbrev pub WritesPageExpanded : Option Content → (header : ℕ) → Index → (before now : ℕ) → Told → (frame : ℕ) → Status →
-    (out out' note' : SinkView) → Type 0
-WritesPageExpanded content header index before now told frame status out out' note' =
-    RunsExpanded (λ c n h b f. WritesPage c n h b f told frame status out out' note')
-    (NotesMemory told status out out' note') content header index before now
-
-abbrev pub WritesCoreAny : Option Content → (blocks header before now : ℕ) → Told → Status →
-    (out out' note' : SinkView) → Type 0
-WritesCoreAny content blocks header before now told status out out' note' =
-    RunsAny (λ c n h b f. WritesCore c n h b f told status out out' note')
-    (λ found. NotesFindings found told status out out' note') (NotesMemory told status out out' note')
-    content blocks header before now
-
-abbrev pub WritesCoreExpanded : Option Content → (header : ℕ) → Index → (before now : ℕ) → Told → Status →
-    (out out' note' : SinkView) → Type 0
-WritesCoreExpanded content header index before now told status out out' note' =
-    RunsExpanded (λ c n h b f. WritesCore c n h b f told status out out' note')
+NotesExpanded Does content header index before now told status out out' note' =
+    RunsExpanded (λ c n h b f. Does c n h b f told status out out' note')
     (NotesMemory told status out out' note') content header index before now

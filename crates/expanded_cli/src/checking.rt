@@ -1,5 +1,6 @@
-ghost use Rattle.std.specs.Prelude.{◌≡◌, ◌≢◌, ◌⊎◌, ◌≤◌, false};
-ghost use Rattle.definitions.specs.Disk.{HasRisen};
+ghost use Rattle.std.specs.Prelude.{◌≡◌, ◌≤◌, false};
+ghost use Rattle.command_kit.specs.Causes.{HasCause, SinksFail};
+ghost use Rattle.command_kit.specs.OnlyRead.{IsOnlyRead};
 ghost use Rattle.command_kit.specs.View.{sink_view};
 ghost use Rattle.overlay_disk.specs.DiskState.{IsSame};
 ghost use Rattle.expanded_disk.specs.Keeps.{HasIndex};
@@ -37,14 +38,9 @@ pub fn check<D: Disk, O: Sink, N: Sink>(
         (sink_view O.Sink out.new.sink)
         (sink_view N.Sink note.old)
         (sink_view N.Sink note.new) }
-    ensures stream { result ≡ Status.Stream →
-        HasRisen (O.faults out.old.sink) (O.faults out.new.sink) ⊎ HasRisen (N.faults note.old) (N.faults note.new) }
-    ensures device { result ≢ Status.Device }
-    ensures words { result ≢ Status.Words }
-    ensures content { D.content disk.new ≡ D.content disk.old }
-    ensures faults { D.faults disk.old ≤ D.faults disk.new }
-    ensures orders { D.orders disk.new ≡ D.orders disk.old }
-    ensures blocks { D.block_count disk.new ≡ D.block_count disk.old }
+    ensures cause { HasCause (SinksFail (sink_view O.Sink out.old.sink) (sink_view O.Sink out.new.sink)
+        (sink_view N.Sink note.old) (sink_view N.Sink note.new)) ⊥ result }
+    ensures disk { IsOnlyRead D.Disk disk.old disk.new }
 {
     match open(alloc, disk, header, out) {
         Ok(Opened::Plain) => image_cli::check(alloc, disk, header, out, note),
@@ -77,10 +73,8 @@ fn check_expanded<B: Walks + Drop, K: Original, O: Sink, N: Sink>(
         (sink_view O.Sink out.new.sink)
         (sink_view N.Sink note.old)
         (sink_view N.Sink note.new) }
-    ensures stream { result.1 ≡ Status.Stream →
-        HasRisen (O.faults out.old.sink) (O.faults out.new.sink) ⊎ HasRisen (N.faults note.old) (N.faults note.new) }
-    ensures device { result.1 ≢ Status.Device }
-    ensures words { result.1 ≢ Status.Words }
+    ensures cause { HasCause (SinksFail (sink_view O.Sink out.old.sink) (sink_view O.Sink out.new.sink)
+        (sink_view N.Sink note.old) (sink_view N.Sink note.new)) ⊥ result.1 }
     ensures same { IsSame K.state (B.state result.0) }
     ensures faults { K.state.faults ≤ (B.state result.0).faults }
 {
@@ -111,14 +105,9 @@ pub fn check_json<D: Disk, O: Sink, N: Sink>(
         (sink_view O.Sink out.new)
         (sink_view N.Sink note.old)
         (sink_view N.Sink note.new) }
-    ensures stream { result ≡ Status.Stream →
-        HasRisen (O.faults out.old) (O.faults out.new) ⊎ HasRisen (N.faults note.old) (N.faults note.new) }
-    ensures device { result ≢ Status.Device }
-    ensures words { result ≢ Status.Words }
-    ensures content { D.content disk.new ≡ D.content disk.old }
-    ensures faults { D.faults disk.old ≤ D.faults disk.new }
-    ensures orders { D.orders disk.new ≡ D.orders disk.old }
-    ensures blocks { D.block_count disk.new ≡ D.block_count disk.old }
+    ensures cause { HasCause (SinksFail (sink_view O.Sink out.old) (sink_view O.Sink out.new)
+        (sink_view N.Sink note.old) (sink_view N.Sink note.new)) ⊥ result }
+    ensures disk { IsOnlyRead D.Disk disk.old disk.new }
 {
     let mut findings = Findings::new(alloc);
     match open(alloc, disk, header, &mut findings) {
@@ -152,10 +141,8 @@ fn check_expanded_json<B: Walks + Drop, K: Original, O: Sink, N: Sink>(
         (sink_view O.Sink out.new)
         (sink_view N.Sink note.old)
         (sink_view N.Sink note.new) }
-    ensures stream { result.1 ≡ Status.Stream →
-        HasRisen (O.faults out.old) (O.faults out.new) ⊎ HasRisen (N.faults note.old) (N.faults note.new) }
-    ensures device { result.1 ≢ Status.Device }
-    ensures words { result.1 ≢ Status.Words }
+    ensures cause { HasCause (SinksFail (sink_view O.Sink out.old) (sink_view O.Sink out.new)
+        (sink_view N.Sink note.old) (sink_view N.Sink note.new)) ⊥ result.1 }
     ensures same { IsSame K.state (B.state result.0) }
     ensures faults { K.state.faults ≤ (B.state result.0).faults }
 {

@@ -1,5 +1,5 @@
-ghost use Rattle.std.specs.Prelude.{◌≡◌, ◌≢◌, ◌⊎◌, ◌≤◌};
-ghost use Rattle.definitions.specs.Disk.{HasRisen};
+ghost use Rattle.std.specs.Prelude.{◌≡◌, ◌≤◌};
+ghost use Rattle.command_kit.specs.Causes.{HasCause, SinksFail};
 ghost use Rattle.command_kit.specs.View.{sink_view};
 ghost use Rattle.image_differ.specs.Sides.{OnlyReads, side_view};
 ghost use Rattle.overlay_disk.specs.DiskState.{IsSame};
@@ -41,10 +41,8 @@ pub fn differ<D: Disk, E: Disk, R: Report, Q: Report, O: Sink, N: Sink>(
         (sink_view O.Sink out.new)
         (sink_view N.Sink note.old)
         (sink_view N.Sink note.new) }
-    ensures stream { result.2 ≡ Status.Stream →
-        HasRisen (O.faults out.old) (O.faults out.new) ⊎ HasRisen (N.faults note.old) (N.faults note.new) }
-    ensures device { result.2 ≢ Status.Device }
-    ensures words { result.2 ≢ Status.Words }
+    ensures cause { HasCause (SinksFail (sink_view O.Sink out.old) (sink_view O.Sink out.new)
+        (sink_view N.Sink note.old) (sink_view N.Sink note.new)) ⊥ result.2 }
     ensures first { OnlyReads (side_view D.Disk R.Report first) (side_view D.Disk R.Report result.0) }
     ensures second { OnlyReads (side_view E.Disk Q.Report second) (side_view E.Disk Q.Report result.1) }
 {
@@ -118,10 +116,8 @@ fn differ_first_expanded<B: Walks, K: Original, E: Disk, R: Report, Q: Report, O
         (sink_view N.Sink note.old)
         (sink_view N.Sink note.new))
         K.state.content first.side.header first.index K.state.faults (B.state result.0.disk).faults }
-    ensures stream { result.2 ≡ Status.Stream →
-        HasRisen (O.faults out.old) (O.faults out.new) ⊎ HasRisen (N.faults note.old) (N.faults note.new) }
-    ensures device { result.2 ≢ Status.Device }
-    ensures words { result.2 ≢ Status.Words }
+    ensures cause { HasCause (SinksFail (sink_view O.Sink out.old) (sink_view O.Sink out.new)
+        (sink_view N.Sink note.old) (sink_view N.Sink note.new)) ⊥ result.2 }
     ensures same { IsSame K.state (B.state result.0.disk) }
     ensures faults { K.state.faults ≤ (B.state result.0.disk).faults }
     ensures header { result.0.header ≡ first.side.header }
@@ -176,10 +172,8 @@ fn differ_second<D: Disk, E: Disk, R: Report, Q: Report, O: Sink, N: Sink>(
         (sink_view O.Sink out.new)
         (sink_view N.Sink note.old)
         (sink_view N.Sink note.new) }
-    ensures stream { result.1 ≡ Status.Stream →
-        HasRisen (O.faults out.old) (O.faults out.new) ⊎ HasRisen (N.faults note.old) (N.faults note.new) }
-    ensures device { result.1 ≢ Status.Device }
-    ensures words { result.1 ≢ Status.Words }
+    ensures cause { HasCause (SinksFail (sink_view O.Sink out.old) (sink_view O.Sink out.new)
+        (sink_view N.Sink note.old) (sink_view N.Sink note.new)) ⊥ result.1 }
     ensures first { OnlyReads (side_view D.Disk R.Report first.old) (side_view D.Disk R.Report first.new) }
     ensures second { OnlyReads (side_view E.Disk Q.Report second) (side_view E.Disk Q.Report result.0) }
 {
@@ -241,10 +235,8 @@ fn differ_second_expanded<D: Disk, B: Walks, K: Original, R: Report, Q: Report, 
         (sink_view N.Sink note.old)
         (sink_view N.Sink note.new))
         K.state.content second.side.header second.index K.state.faults (B.state result.0.disk).faults }
-    ensures stream { result.1 ≡ Status.Stream →
-        HasRisen (O.faults out.old) (O.faults out.new) ⊎ HasRisen (N.faults note.old) (N.faults note.new) }
-    ensures device { result.1 ≢ Status.Device }
-    ensures words { result.1 ≢ Status.Words }
+    ensures cause { HasCause (SinksFail (sink_view O.Sink out.old) (sink_view O.Sink out.new)
+        (sink_view N.Sink note.old) (sink_view N.Sink note.new)) ⊥ result.1 }
     ensures same { IsSame K.state (B.state result.0.disk) }
     ensures faults { K.state.faults ≤ (B.state result.0.disk).faults }
     ensures header { result.0.header ≡ second.side.header }

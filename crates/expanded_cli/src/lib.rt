@@ -3,13 +3,12 @@
 #![tactic(auto)]
 
 mod checking;
-mod coring;
+mod commands;
 mod differing;
 mod expanding;
 mod owned;
 mod streaming;
 
 pub use checking::{check, check_json};
-pub use coring::core;
 pub use differing::differ;
-pub use streaming::{page, stream};
+pub use streaming::{core, page, stream};

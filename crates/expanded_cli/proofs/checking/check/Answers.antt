@@ -1,14 +1,18 @@
-use Rattle.std.proofs.Common.{refl, sym, ap, subst, ◌∙◌}
-use Rattle.definitions.specs.Disk.{HasRisen}
+use Rattle.std.proofs.Common.{refl, sym, ap, subst, ◌∙◌, arith}
+use Rattle.command_kit.specs.Causes.{SinksFail}
+use Rattle.command_kit.specs.OnlyRead.{IsOnlyRead}
 use Rattle.command_kit.specs.Told.{RunResult, memory_told}
 use Rattle.command_kit.specs.Told.{IsTold}
 use Rattle.command_kit.specs.View.{sink_view}
+use Rattle.command_kit.proofs.Causes.{cause_since}
+use Rattle.command_kit.proofs.OnlyRead.{read_on}
 use Rattle.image_check.specs.Told.{Told}
 use Rattle.image_cli.specs.Checks.{Checks, findings_told}
 use Rattle.image_cli.specs.Printed.{printer_view}
+use Rattle.image_cli.proofs.Causes.{cause_later, memory_cause}
 use Rattle.expanded_cli.specs.Runs.{refused, no_memory}
 use Rattle.expanded_cli.specs.Checks.{ChecksAny}
-use Rattle.expanded_cli.proofs.Running.{checks_since, index_at, opened_plain, opened_refused, opened_whole, plainly, risen_since, so_far, told_since, unpacks}
+use Rattle.expanded_cli.proofs.Running.{checks_since, index_at, opened_plain, opened_refused, opened_whole, plainly, same_faults, so_far, told_since, unpacks}
 use Rattle.expanded_cli.proofs.checking.check.Goals as goal
 
 pub check-requires-clause-none : goal.check-requires-clause-none
@@ -87,17 +91,19 @@ returns-in-Ok-Plain-clause-outcome g c =
     c.open.ensures.content c.open.ensures.blocks c.open.ensures.faults
     (checks_since status first second last note noted (ap (λ (t : Told). t.text) opens.0) (ap (λ (t : Told). t.faults) opens.0)) opens.1 c.check.ensures.outcome
 
-pub returns-in-Ok-Plain-clause-stream : goal.returns-in-Ok-Plain-clause-stream
-returns-in-Ok-Plain-clause-stream g c = λ e.
-    let content = g.D.Disk.content c.args.disk.now in
-    let blocks = g.D.Disk.block_count c.args.disk.now in
-    let before = g.D.Disk.faults c.args.disk.now in
-    let then = g.D.Disk.faults c.open.new.disk in
+pub returns-in-Ok-Plain-clause-cause : goal.returns-in-Ok-Plain-clause-cause
+returns-in-Ok-Plain-clause-cause g c =
     let old = printer_view g.O.Sink c.args.out.now in
     let mid = printer_view g.O.Sink c.open.new.report in
-    let opens = opened_plain content blocks c.args.header before then old mid c.in-Ok-Plain.field-0 c.in-Ok-Plain.field-0-is c.in-Ok-Plain.ensures.opened in
-    risen_since old.faults mid.faults (g.O.Sink.faults c.check.new.out.sink) (HasRisen (g.N.Sink.faults c.args.note.now) (g.N.Sink.faults c.check.new.note))
-    (ap (λ (t : Told). t.faults) opens.0) (c.check.ensures.stream e)
+    let opens = opened_plain (g.D.Disk.content c.args.disk.now) (g.D.Disk.block_count c.args.disk.now) c.args.header (g.D.Disk.faults c.args.disk.now) (g.D.Disk.faults c.open.new.disk) old mid c.in-Ok-Plain.field-0 c.in-Ok-Plain.field-0-is c.in-Ok-Plain.ensures.opened in
+    let note = sink_view g.N.Sink c.args.note.now in
+    cause_later c.check.result (sink_view g.O.Sink c.args.out.now.sink) (sink_view g.O.Sink c.open.new.report.sink) (sink_view g.O.Sink c.check.new.out.sink)
+    note note (sink_view g.N.Sink c.check.new.note) (same_faults old mid opens.0) (omega arith) c.check.ensures.cause
+
+pub returns-in-Ok-Plain-clause-disk : goal.returns-in-Ok-Plain-clause-disk
+returns-in-Ok-Plain-clause-disk g c =
+    read_on g.D.Disk c.args.disk.now c.open.new.disk c.check.new.disk
+    (record { content = c.open.ensures.content; faults = c.open.ensures.faults; orders = c.open.ensures.orders; blocks = c.open.ensures.blocks }) c.check.ensures.disk
 
 pub returns-in-Ok-Refused-clause-outcome : goal.returns-in-Ok-Refused-clause-outcome
 returns-in-Ok-Refused-clause-outcome g c =
@@ -113,19 +119,16 @@ returns-in-Ok-Refused-clause-outcome g c =
     let note = sink_view g.N.Sink c.args.note.now in
     refused opens.0 opens.1.1 (c.sum_up.ensures.told opens.0 first (so_far opens.0 first old mid refl refl c.requires.none c.requires.sound opens.1.0))
 
-pub returns-in-Ok-Refused-clause-stream : goal.returns-in-Ok-Refused-clause-stream
-returns-in-Ok-Refused-clause-stream g c = λ e.
-    let content = g.D.Disk.content c.args.disk.now in
-    let blocks = g.D.Disk.block_count c.args.disk.now in
-    let before = g.D.Disk.faults c.args.disk.now in
-    let then = g.D.Disk.faults c.open.new.disk in
+pub returns-in-Ok-Refused-clause-cause : goal.returns-in-Ok-Refused-clause-cause
+returns-in-Ok-Refused-clause-cause g c =
     let old = printer_view g.O.Sink c.args.out.now in
     let mid = printer_view g.O.Sink c.open.new.report in
-    let opens = opened_refused content blocks c.args.header before then old mid c.in-Ok-Refused.field-0 c.in-Ok-Refused.field-0-is c.in-Ok-Refused.ensures.opened in
+    let opens = opened_refused (g.D.Disk.content c.args.disk.now) (g.D.Disk.block_count c.args.disk.now) c.args.header (g.D.Disk.faults c.args.disk.now) (g.D.Disk.faults c.open.new.disk) old mid c.in-Ok-Refused.field-0 c.in-Ok-Refused.field-0-is c.in-Ok-Refused.ensures.opened in
     let first = sink_view g.O.Sink c.args.out.now.sink in
-    let second = sink_view g.O.Sink c.open.new.report.sink in
+    let last = sink_view g.O.Sink c.sum_up.new.out.sink in
     let note = sink_view g.N.Sink c.args.note.now in
-    c.sum_up.ensures.stream opens.0 first (so_far opens.0 first old mid refl refl c.requires.none c.requires.sound opens.1.0) e
+    let noted = sink_view g.N.Sink c.sum_up.new.note in
+    cause_since {longer = SinksFail first last note noted} c.sum_up.result (λ fails. fails opens.0 first (so_far opens.0 first old mid refl refl c.requires.none c.requires.sound opens.1.0)) (λ (never : ⊥). never) c.sum_up.ensures.cause
 
 pub returns-in-Ok-Whole-clause-outcome : goal.returns-in-Ok-Whole-clause-outcome
 returns-in-Ok-Whole-clause-outcome g c =
@@ -152,17 +155,24 @@ returns-in-Ok-Whole-clause-outcome g c =
     c.open.ensures.content c.open.ensures.faults
     (checks_since status first second last note noted taken faults) (told_since memory_told status first second last note noted taken faults) opens.1 c.check_expanded-over.ensures.outcome)
 
-pub returns-in-Ok-Whole-clause-stream : goal.returns-in-Ok-Whole-clause-stream
-returns-in-Ok-Whole-clause-stream g c = λ e.
-    let content = g.D.Disk.content c.args.disk.now in
-    let blocks = g.D.Disk.block_count c.args.disk.now in
-    let before = g.D.Disk.faults c.args.disk.now in
-    let then = g.D.Disk.faults c.open.new.disk in
+pub returns-in-Ok-Whole-clause-cause : goal.returns-in-Ok-Whole-clause-cause
+returns-in-Ok-Whole-clause-cause g c =
     let old = printer_view g.O.Sink c.args.out.now in
     let mid = printer_view g.O.Sink c.open.new.report in
-    let opens = opened_whole content blocks c.args.header before then old mid c.in-Ok-Whole.field-0 c.in-Ok-Whole.index c.in-Ok-Whole.field-0-is c.in-Ok-Whole.ensures.opened in
-    risen_since old.faults mid.faults (g.O.Sink.faults c.check_expanded-over.new.out.sink) (HasRisen (g.N.Sink.faults c.args.note.now) (g.N.Sink.faults c.check_expanded-over.new.note))
-    (ap (λ (t : Told). t.faults) opens.0) (c.check_expanded-over.ensures.stream e)
+    let opens = opened_whole (g.D.Disk.content c.args.disk.now) (g.D.Disk.block_count c.args.disk.now) c.args.header (g.D.Disk.faults c.args.disk.now) (g.D.Disk.faults c.open.new.disk) old mid c.in-Ok-Whole.field-0 c.in-Ok-Whole.index c.in-Ok-Whole.field-0-is c.in-Ok-Whole.ensures.opened in
+    let note = sink_view g.N.Sink c.args.note.now in
+    cause_later c.check_expanded-over.result.1 (sink_view g.O.Sink c.args.out.now.sink) (sink_view g.O.Sink c.open.new.report.sink) (sink_view g.O.Sink c.check_expanded-over.new.out.sink)
+    note note (sink_view g.N.Sink c.check_expanded-over.new.note) (same_faults old mid opens.0) (omega arith) c.check_expanded-over.ensures.cause
+
+pub returns-in-Ok-Whole-clause-disk : goal.returns-in-Ok-Whole-clause-disk
+returns-in-Ok-Whole-clause-disk g c =
+    let same = c.check_expanded-over.ensures.same in
+    let there = c.check_expanded-over.result.0.disk.now in
+    let given = c.disk-1.given.1 (sym same.which) in
+    subst (λ d. IsOnlyRead g.D.Disk c.args.disk.now d) (sym given)
+    (read_on g.D.Disk c.args.disk.now c.open.new.disk there
+    (record { content = c.open.ensures.content; faults = c.open.ensures.faults; orders = c.open.ensures.orders; blocks = c.open.ensures.blocks })
+    (record { content = same.content; faults = c.check_expanded-over.ensures.faults; orders = same.orders; blocks = same.blocks }))
 
 pub returns-in-Err-clause-outcome : goal.returns-in-Err-clause-outcome
 returns-in-Err-clause-outcome g c =
@@ -175,7 +185,9 @@ returns-in-Err-clause-outcome g c =
     no_memory (told_since memory_told c.tell.result first second last note noted (ap (λ (t : Told). t.text) untold) (ap (λ (t : Told). t.faults) untold)
     (subst (λ (r : RunResult). IsTold r c.tell.result second last note noted) c.no_memory.ensures.told c.tell.ensures.told))
 
-pub returns-in-Err-clause-stream : goal.returns-in-Err-clause-stream
-returns-in-Err-clause-stream g c = λ e.
-    risen_since (g.O.Sink.faults c.args.out.now.sink) (g.O.Sink.faults c.open.new.report.sink) (g.O.Sink.faults c.tell.new.out) (HasRisen (g.N.Sink.faults c.args.note.now) (g.N.Sink.faults c.tell.new.note))
-    (ap (λ (t : Told). t.faults) c.in-Err.ensures.untold) (c.tell.ensures.stream e)
+pub returns-in-Err-clause-cause : goal.returns-in-Err-clause-cause
+returns-in-Err-clause-cause g c =
+    let note = sink_view g.N.Sink c.args.note.now in
+    cause_later c.tell.result (sink_view g.O.Sink c.args.out.now.sink) (sink_view g.O.Sink c.open.new.report.sink) (sink_view g.O.Sink c.tell.new.out)
+    note note (sink_view g.N.Sink c.tell.new.note) (same_faults (printer_view g.O.Sink c.args.out.now) (printer_view g.O.Sink c.open.new.report) c.in-Err.ensures.untold) (omega arith)
+    (memory_cause c.no_memory.result.status c.tell.result c.no_memory.ensures.status c.tell.ensures.stream c.tell.ensures.status)

@@ -1,10 +1,13 @@
 use Rattle.std.proofs.Common.{Some, sym, subst}
+use Rattle.command_kit.specs.OnlyRead.{IsOnlyRead}
 use Rattle.command_kit.specs.Told.{RunResult, memory_told}
 use Rattle.command_kit.specs.Told.{IsTold}
 use Rattle.command_kit.specs.View.{sink_view}
+use Rattle.command_kit.proofs.OnlyRead.{read_on}
 use Rattle.image_check.specs.Told.{Told, Tells}
 use Rattle.image_cli.specs.Json.{PrintsCheck, TellsCheck}
 use Rattle.image_json.proofs.Keeping.{told_of}
+use Rattle.image_cli.proofs.Causes.{memory_cause}
 use Rattle.expanded_cli.specs.Runs.{refused, no_memory}
 use Rattle.expanded_cli.specs.Checks.{PrintsCheckAny}
 use Rattle.expanded_cli.proofs.Running.{index_at, opened_plain, opened_refused, opened_whole, plainly, unpacks}
@@ -73,3 +76,22 @@ returns-clause-outcome g c =
     let out = sink_view g.O.Sink c.args.out.now in
     let note = sink_view g.N.Sink c.args.note.now in
     no_memory (subst (λ (r : RunResult). IsTold r c.tell.result out (sink_view g.O.Sink c.tell.new.out) note (sink_view g.N.Sink c.tell.new.note)) c.no_memory.ensures.told c.tell.ensures.told)
+
+pub returns-clause-cause : goal.returns-clause-cause
+returns-clause-cause g c =
+    memory_cause c.no_memory.result.status c.tell.result c.no_memory.ensures.status c.tell.ensures.stream c.tell.ensures.status
+
+pub returns-in-Ok-Plain-clause-disk : goal.returns-in-Ok-Plain-clause-disk
+returns-in-Ok-Plain-clause-disk g c =
+    read_on g.D.Disk c.args.disk.now c.open.new.disk c.check_json.new.disk
+    (record { content = c.open.ensures.content; faults = c.open.ensures.faults; orders = c.open.ensures.orders; blocks = c.open.ensures.blocks }) c.check_json.ensures.disk
+
+pub returns-in-Ok-Whole-clause-disk : goal.returns-in-Ok-Whole-clause-disk
+returns-in-Ok-Whole-clause-disk g c =
+    let same = c.check_expanded_json-over.ensures.same in
+    let there = c.check_expanded_json-over.result.0.disk.now in
+    let given = c.disk-1.given.1 (sym same.which) in
+    subst (λ d. IsOnlyRead g.D.Disk c.args.disk.now d) (sym given)
+    (read_on g.D.Disk c.args.disk.now c.open.new.disk there
+    (record { content = c.open.ensures.content; faults = c.open.ensures.faults; orders = c.open.ensures.orders; blocks = c.open.ensures.blocks })
+    (record { content = same.content; faults = c.check_expanded_json-over.ensures.faults; orders = same.orders; blocks = same.blocks }))

@@ -3,6 +3,7 @@ use Rattle.command_kit.specs.Told.{RunResult}
 use Rattle.command_kit.specs.Told.{IsTold}
 use Rattle.command_kit.specs.View.{sink_view}
 use Rattle.image_differ.specs.Sides.{side_view}
+use Rattle.image_cli.proofs.Causes.{memory_cause}
 use Rattle.expanded_disk.specs.Keeps.{FailsWith}
 use Rattle.expanded_cli.specs.Differs.{DiffersOver, LacksMemory}
 use Rattle.expanded_cli.specs.Runs.{lacks}
@@ -37,3 +38,7 @@ returns-in-Err-clause-outcome g c =
     let noted = sink_view g.N.Sink c.tell-status.new.note in
     let status = c.tell-status.result in
     lacks (refl, refl, subst (λ (r : RunResult). IsTold r status out last note noted) c.no_memory.ensures.told c.tell-status.ensures.told)
+
+pub returns-in-Err-clause-cause : goal.returns-in-Err-clause-cause
+returns-in-Err-clause-cause g c =
+    memory_cause c.no_memory.result.status c.tell-status.result c.no_memory.ensures.status c.tell-status.ensures.stream c.tell-status.ensures.status

@@ -4,6 +4,7 @@ use Rattle.command_kit.specs.Told.{IsTold}
 use Rattle.command_kit.specs.View.{sink_view}
 use Rattle.image_differ.specs.Sides.{side_view}
 use Rattle.image_differ.specs.declared.side.Which.TheVariants.{Second}
+use Rattle.image_cli.proofs.Causes.{memory_cause, refused_cause}
 use Rattle.expanded_cli.specs.Differs.{DiffersFrom, DiffersSecond, IsUncompared, LacksMemory}
 use Rattle.expanded_cli.specs.Runs.{refused, no_memory}
 use Rattle.expanded_cli.proofs.Comparing.{from_read, from_since, lacks_since}
@@ -121,3 +122,11 @@ returns-in-Err-clause-outcome g c =
     let noted = sink_view g.N.Sink c.tell-status-in-Err.new.note in
     let status = c.tell-status-in-Err.result in
     no_memory (refl, c.in-Err.ensures.untold, subst (λ (r : RunResult). IsTold r status out last note noted) c.no_memory.ensures.told c.tell-status-in-Err.ensures.told)
+
+pub returns-in-Ok-Refused-clause-cause : goal.returns-in-Ok-Refused-clause-cause
+returns-in-Ok-Refused-clause-cause g c =
+    refused_cause c.has_findings.result.status c.tell-status.result c.has_findings.ensures.status c.tell-status.ensures.stream c.tell-status.ensures.status
+
+pub returns-in-Err-clause-cause : goal.returns-in-Err-clause-cause
+returns-in-Err-clause-cause g c =
+    memory_cause c.no_memory.result.status c.tell-status-in-Err.result c.no_memory.ensures.status c.tell-status-in-Err.ensures.stream c.tell-status-in-Err.ensures.status

@@ -1,7 +1,7 @@
-use Rattle.expanded_cli.proofs.streaming.page.Given as goal
+use Rattle.expanded_cli.proofs.commands.run.Given as goal
 
-abbrev pub ghosts-page_expanded : goal.ghosts-page_expanded
-ghosts-page_expanded g a = record {
+abbrev pub ghosts-run_expanded : goal.ghosts-run_expanded
+ghosts-run_expanded g a = record {
   state = record {
     which = a.below.disk.ghost_name;
     blocks = g.D.Disk.block_count a.below.disk.now;
