@@ -1,6 +1,6 @@
 -- Findings that are noted before the last note.
 use Rattle.std.proofs.Common.{◌≡◌, ℕ, ◌≤◌, Option, length, ap, inl, inr, arith}
-use Rattle.definitions.specs.Disk.{Content, HasRisen}
+use Rattle.definitions.specs.Disk.{Content}
 use Rattle.definitions.specs.Zones.{top}
 use Rattle.image_check.specs.Told.{Told}
 use Rattle.image_machine.specs.declared.heading.Layout.{Layout}
@@ -17,10 +17,6 @@ use Rattle.image_machine_cli.specs.declared.wanted.Wanted.TheVariants.{Loader, S
 
 pub same_faults : (told then : Told) → then ≡ told → told.faults ≤ then.faults
 same_faults told then e = omega (arith, ap (λ (t : Told). t.faults) e)
-
-pub later : (before then now : ℕ) → before ≤ then → HasRisen then now → HasRisen before now
-later before then now le (inl lt) = inl (omega arith)
-later before then now le (inr last) = inr last
 
 -- the faults of the notes don't fall
 made_counted : (no_area : Type 0) (limits : OneLimit → Type 0) (dumps : MachineDump → Type 0) (content : Option Content) (blocks header before now : ℕ) (told then : Told) (what : Made) → MakesBy no_area limits dumps content blocks header before now told then what → told.faults ≤ then.faults

@@ -1,5 +1,7 @@
-ghost use Rattle.std.specs.Prelude.{◌≡◌, ◌≢◌, ◌⊎◌, ◌≤◌, Option};
-ghost use Rattle.definitions.specs.Disk.{Content, HasRisen};
+ghost use Rattle.std.specs.Prelude.{◌≡◌, ◌≤◌, Option};
+ghost use Rattle.definitions.specs.Disk.{Content};
+ghost use Rattle.command_kit.specs.Causes.{HasCause, SinksFail};
+ghost use Rattle.command_kit.specs.OnlyRead.{IsOnlyRead};
 ghost use Rattle.command_kit.specs.View.{sink_view};
 ghost use Rattle.overlay_disk.specs.DiskState.{IsSame};
 ghost use Rattle.image_cli.specs.Printed.{printer_view};
@@ -45,14 +47,9 @@ pub(crate) fn dump_plain<D: Disk, O: Sink, N: Sink>(
         (sink_view O.Sink out.old)
         (sink_view O.Sink out.new)
         (sink_view N.Sink note.new.sink) }
-    ensures stream { result ≡ Status.Stream →
-        HasRisen (O.faults out.old) (O.faults out.new) ⊎ HasRisen (N.faults note.old.sink) (N.faults note.new.sink) }
-    ensures device { result ≢ Status.Device }
-    ensures words { result ≢ Status.Words }
-    ensures content { D.content disk.new ≡ D.content disk.old }
-    ensures faults { D.faults disk.old ≤ D.faults disk.new }
-    ensures orders { D.orders disk.new ≡ D.orders disk.old }
-    ensures blocks { D.block_count disk.new ≡ D.block_count disk.old }
+    ensures cause { HasCause (SinksFail (sink_view O.Sink out.old) (sink_view O.Sink out.new)
+        (sink_view N.Sink note.old.sink) (sink_view N.Sink note.new.sink)) ⊥ result }
+    ensures disk { IsOnlyRead D.Disk disk.old disk.new }
 {
     match make_plain(alloc, disk, layout, wanted, note) {
         Ok(made) => tell_made(&made, out, &mut note.sink),
@@ -77,10 +74,8 @@ pub(crate) fn dump_expanded<B: Walks + Drop, K: Original, O: Sink, N: Sink>(
         (sink_view O.Sink out.old)
         (sink_view O.Sink out.new)
         (sink_view N.Sink note.new.sink) }
-    ensures stream { result.1 ≡ Status.Stream →
-        HasRisen (O.faults out.old) (O.faults out.new) ⊎ HasRisen (N.faults note.old.sink) (N.faults note.new.sink) }
-    ensures device { result.1 ≢ Status.Device }
-    ensures words { result.1 ≢ Status.Words }
+    ensures cause { HasCause (SinksFail (sink_view O.Sink out.old) (sink_view O.Sink out.new)
+        (sink_view N.Sink note.old.sink) (sink_view N.Sink note.new.sink)) ⊥ result.1 }
     ensures same { IsSame K.state (B.state result.0) }
     ensures faults { K.state.faults ≤ (B.state result.0).faults }
 {
@@ -113,14 +108,9 @@ fn dump_from<D: Disk, O: Sink, N: Sink>(
         (sink_view O.Sink out.old)
         (sink_view O.Sink out.new)
         (sink_view N.Sink note.new.sink) }
-    ensures stream { result ≡ Status.Stream →
-        HasRisen (O.faults out.old) (O.faults out.new) ⊎ HasRisen (N.faults note.old.sink) (N.faults note.new.sink) }
-    ensures device { result ≢ Status.Device }
-    ensures words { result ≢ Status.Words }
-    ensures content { D.content disk.new ≡ D.content disk.old }
-    ensures faults { D.faults disk.old ≤ D.faults disk.new }
-    ensures orders { D.orders disk.new ≡ D.orders disk.old }
-    ensures blocks { D.block_count disk.new ≡ D.block_count disk.old }
+    ensures cause { HasCause (SinksFail (sink_view O.Sink out.old) (sink_view O.Sink out.new)
+        (sink_view N.Sink note.old.sink) (sink_view N.Sink note.new.sink)) ⊥ result }
+    ensures disk { IsOnlyRead D.Disk disk.old disk.new }
 {
     match make_from(alloc, disk, asked, wanted, note) {
         Ok(made) => tell_made(&made, out, &mut note.sink),

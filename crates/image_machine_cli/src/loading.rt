@@ -1,5 +1,5 @@
-ghost use Rattle.std.specs.Prelude.{◌≡◌, ◌≢◌, ◌⊎◌, ◌≤◌};
-ghost use Rattle.definitions.specs.Disk.{HasRisen};
+ghost use Rattle.command_kit.specs.Causes.{HasCause, SinksFail};
+ghost use Rattle.command_kit.specs.OnlyRead.{IsOnlyRead};
 ghost use Rattle.command_kit.specs.View.{sink_view};
 ghost use Rattle.image_cli.specs.Printed.{printer_view};
 ghost use Rattle.image_machine_cli.specs.Loads.{GivesDump, GivesMachine, Loads};
@@ -35,14 +35,9 @@ pub fn loader<D: Disk, O: Sink, N: Sink>(
         (sink_view O.Sink out.old)
         (sink_view O.Sink out.new)
         (sink_view N.Sink note.new.sink) }
-    ensures stream { result ≡ Status.Stream →
-        HasRisen (O.faults out.old) (O.faults out.new) ⊎ HasRisen (N.faults note.old.sink) (N.faults note.new.sink) }
-    ensures device { result ≢ Status.Device }
-    ensures words { result ≢ Status.Words }
-    ensures content { D.content disk.new ≡ D.content disk.old }
-    ensures faults { D.faults disk.old ≤ D.faults disk.new }
-    ensures orders { D.orders disk.new ≡ D.orders disk.old }
-    ensures blocks { D.block_count disk.new ≡ D.block_count disk.old }
+    ensures cause { HasCause (SinksFail (sink_view O.Sink out.old) (sink_view O.Sink out.new)
+        (sink_view N.Sink note.old.sink) (sink_view N.Sink note.new.sink)) ⊥ result }
+    ensures disk { IsOnlyRead D.Disk disk.old disk.new }
 {
     dump(alloc, disk, layout, Wanted::Loader, out, note)
 }
@@ -64,14 +59,9 @@ pub fn machine<D: Disk, O: Sink, N: Sink>(
         (sink_view O.Sink out.old)
         (sink_view O.Sink out.new)
         (sink_view N.Sink note.new.sink) }
-    ensures stream { result ≡ Status.Stream →
-        HasRisen (O.faults out.old) (O.faults out.new) ⊎ HasRisen (N.faults note.old.sink) (N.faults note.new.sink) }
-    ensures device { result ≢ Status.Device }
-    ensures words { result ≢ Status.Words }
-    ensures content { D.content disk.new ≡ D.content disk.old }
-    ensures faults { D.faults disk.old ≤ D.faults disk.new }
-    ensures orders { D.orders disk.new ≡ D.orders disk.old }
-    ensures blocks { D.block_count disk.new ≡ D.block_count disk.old }
+    ensures cause { HasCause (SinksFail (sink_view O.Sink out.old) (sink_view O.Sink out.new)
+        (sink_view N.Sink note.old.sink) (sink_view N.Sink note.new.sink)) ⊥ result }
+    ensures disk { IsOnlyRead D.Disk disk.old disk.new }
 {
     dump(alloc, disk, layout, Wanted::Saved(tables), out, note)
 }
@@ -91,14 +81,9 @@ fn dump<D: Disk, O: Sink, N: Sink>(
         (sink_view O.Sink out.old)
         (sink_view O.Sink out.new)
         (sink_view N.Sink note.new.sink) }
-    ensures stream { result ≡ Status.Stream →
-        HasRisen (O.faults out.old) (O.faults out.new) ⊎ HasRisen (N.faults note.old.sink) (N.faults note.new.sink) }
-    ensures device { result ≢ Status.Device }
-    ensures words { result ≢ Status.Words }
-    ensures content { D.content disk.new ≡ D.content disk.old }
-    ensures faults { D.faults disk.old ≤ D.faults disk.new }
-    ensures orders { D.orders disk.new ≡ D.orders disk.old }
-    ensures blocks { D.block_count disk.new ≡ D.block_count disk.old }
+    ensures cause { HasCause (SinksFail (sink_view O.Sink out.old) (sink_view O.Sink out.new)
+        (sink_view N.Sink note.old.sink) (sink_view N.Sink note.new.sink)) ⊥ result }
+    ensures disk { IsOnlyRead D.Disk disk.old disk.new }
 {
     match open(alloc, disk, layout.offset, note) {
         Ok(Opened::Plain) => dump_plain(alloc, disk, layout, wanted, out, note),

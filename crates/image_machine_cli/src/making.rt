@@ -1,5 +1,6 @@
-ghost use Rattle.std.specs.Prelude.{◌≡◌, ◌≤◌, Option, IfOk, OnErr};
+ghost use Rattle.std.specs.Prelude.{◌≡◌, Option, IfOk, OnErr};
 ghost use Rattle.definitions.specs.Disk.{Content};
+ghost use Rattle.command_kit.specs.OnlyRead.{IsOnlyRead};
 ghost use Rattle.image_dump.specs.Headings.{IsHeadingOf};
 ghost use Rattle.image_machine_cli.specs.Makes.{MakesWanted};
 
@@ -22,10 +23,7 @@ pub(crate) fn make_plain<D: Disk, R: Report>(
     ensures made { IfOk result (MakesWanted wanted (D.content disk.old) (D.content disk.old) (D.block_count disk.old)
         layout.now.offset (D.faults disk.old) (D.faults disk.new) (R.told report.old) (R.told report.new) layout.now) }
     ensures untold { OnErr result (R.told report.new ≡ R.told report.old) }
-    ensures content { D.content disk.new ≡ D.content disk.old }
-    ensures faults { D.faults disk.old ≤ D.faults disk.new }
-    ensures orders { D.orders disk.new ≡ D.orders disk.old }
-    ensures blocks { D.block_count disk.new ≡ D.block_count disk.old }
+    ensures disk { IsOnlyRead D.Disk disk.old disk.new }
 {
     match wanted {
         Wanted::Loader => loader_of(alloc, disk, layout, report),
@@ -45,10 +43,7 @@ pub(crate) fn make_from<D: Disk, R: Report>(
         IfOk result (MakesWanted wanted area (D.content disk.old) (D.block_count disk.old) 0
         (D.faults disk.old) (D.faults disk.new) (R.told report.old) (R.told report.new) asked.now.layout) }
     ensures untold { OnErr result (R.told report.new ≡ R.told report.old) }
-    ensures content { D.content disk.new ≡ D.content disk.old }
-    ensures faults { D.faults disk.old ≤ D.faults disk.new }
-    ensures orders { D.orders disk.new ≡ D.orders disk.old }
-    ensures blocks { D.block_count disk.new ≡ D.block_count disk.old }
+    ensures disk { IsOnlyRead D.Disk disk.old disk.new }
 {
     match wanted {
         Wanted::Loader => loader_from(alloc, asked, disk, 0, report),

@@ -1,5 +1,4 @@
-ghost use Rattle.std.specs.Prelude.{◌≡◌, ◌≢◌, ◌⊎◌};
-ghost use Rattle.definitions.specs.Disk.{HasRisen};
+ghost use Rattle.command_kit.specs.Causes.{HasCause, SinksFail};
 ghost use Rattle.command_kit.specs.Told.{IsTold};
 ghost use Rattle.command_kit.specs.View.{sink_view};
 ghost use Rattle.image_machine_cli.specs.Loads.{HasFrames, made_told};
@@ -18,10 +17,8 @@ pub(crate) fn tell_made<O: Sink, N: Sink>(made: &Made, out: &mut O, note: &mut N
         (sink_view O.Sink out.new)
         (sink_view N.Sink note.old)
         (sink_view N.Sink note.new) }
-    ensures stream { result ≡ Status.Stream →
-        HasRisen (O.faults out.old) (O.faults out.new) ⊎ HasRisen (N.faults note.old) (N.faults note.new) }
-    ensures device { result ≢ Status.Device }
-    ensures words { result ≢ Status.Words }
+    ensures cause { HasCause (SinksFail (sink_view O.Sink out.old) (sink_view O.Sink out.new)
+        (sink_view N.Sink note.old) (sink_view N.Sink note.new)) ⊥ result }
 {
     match made {
         Made::Dump(dump) => tell_dump(&dump.hw, &dump.frames, out, note),

@@ -1,7 +1,10 @@
 -- From why one of two dumps wasn't read to what is printed about it.
-use Rattle.std.proofs.Common.{ℕ, List, Option, refl}
+use Rattle.std.proofs.Common.{◌⊎◌, inl, inr, ℕ, List, Option, refl}
 use Rattle.dump_file.specs.Dump.{DumpValue}
+use Rattle.swsusp_cli.proofs.Causes.{stop_cause}
 use Rattle.swsusp_cli.specs.Stops.{IsStopTold, LacksDump}
+use Rattle.command_kit.proofs.Causes.{cause_since}
+use Rattle.command_kit.specs.Causes.{HasCause}
 use Rattle.command_kit.specs.View.{SinkView}
 use Rattle.command_kit.specs.declared.status.Status.{Status}
 use Rattle.swsusp_cli.specs.declared.stop.Stop.{Stop}
@@ -21,3 +24,18 @@ lacks_second first first' second second' a status out out' note note' Source is 
 lacks_second first first' second second' a status out out' note note' Memory is lacks told = out_of_memory told
 lacks_second first first' second second' a status out out' note note' (Script fault) is lacks told = absurd lacks
 lacks_second first first' second second' a status out out' note note' (Dump fault) is lacks told = no_second a fault is lacks told
+
+-- whose failure the status says: that of the first input, or of the second
+first_or : {first second outputs : Type 0} → first ⊎ outputs → first ⊎ second ⊎ outputs
+first_or (inl first) = inl first
+first_or (inr outputs) = inr (inr outputs)
+
+pub first_cause : {source first second outputs : Type 0} (status : Status) → HasCause (source ⊎ outputs) ⊥ status → (source → first) → HasCause (first ⊎ second ⊎ outputs) ⊥ status
+first_cause {first = first} {outputs = outputs} status cause failed =
+    let one : HasCause (first ⊎ outputs) ⊥ status = stop_cause status cause failed in
+    cause_since status first_or (λ none. none) one
+
+pub second_cause : {source first second outputs : Type 0} (status : Status) → HasCause (source ⊎ outputs) ⊥ status → (source → second) → HasCause (first ⊎ second ⊎ outputs) ⊥ status
+second_cause {second = second} {outputs = outputs} status cause failed =
+    let other : HasCause (second ⊎ outputs) ⊥ status = stop_cause status cause failed in
+    cause_since status (λ streams. inr streams) (λ none. none) other

@@ -1,5 +1,5 @@
 -- How `check` may end: it reads a loader's dump, and reports how a resume of the image on the disk would reply.
-use Rattle.std.specs.Prelude.{◌≡◌, ◌≤◌, ◌+◌, [], Some, if◌then◌else◌}
+use Rattle.std.specs.Prelude.{◌≡◌, ◌≤◌, ◌+◌, Some, if◌then◌else◌}
 use Rattle.definitions.specs.Disk as disk
 use Rattle.command_core.specs.declared.ending.Ended.{Ended}
 use Rattle.dry_resume.specs.Foretold.{Foretells}
@@ -8,21 +8,18 @@ use Rattle.dump_file.specs.declared.dump.DumpFault.{DumpFault}
 use Rattle.plain_machine.specs.Chain.{Marked}
 use Rattle.plain_machine.specs.Machine.{Memory}
 use Rattle.plain_machine.specs.UsableArea.{HasOriginal}
-use Rattle.plain_machine.specs.Replies.{line_of}
 use Rattle.plain_machine.specs.declared.event.IdentCheck.{IdentCheck}
 use Rattle.command_kit.specs.Told.{RunResult, memory_told}
-use Rattle.swsusp_cli.specs.Dumps.{IsDump, IsNoDump, stopped_told}
+use Rattle.swsusp_cli.specs.Dumps.{IsDump, IsNoDump, stopped_told, succeeded_told}
 use Rattle.swsusp_cli.specs.Loads.{is_resumed}
 use Rattle.swsusp_cli.specs.Outcome.{IsOutOfMemory, FailsAtSource, Tells}
 use Rattle.command_kit.specs.View.{DiskView, View}
 use Rattle.command_kit.specs.declared.status.Status.{Status}
-use Rattle.command_kit.specs.declared.status.Status.TheVariants.{Done}
 
 -- the reply of a resume that would end well goes to out; otherwise a note says why it wouldn't
 abbrev pub foretold_told : Ended → RunResult
 foretold_told ended =
-    if is_resumed ended.reply then record { status = Done; out = line_of ended.reply; note = [] }
-    else stopped_told ended
+    if is_resumed ended.reply then succeeded_told ended.reply else stopped_told ended
 
 -- the disk was only read, with at most 65,800 calls
 pub record IsOnlyRead (x x' : DiskView) : Type 0 where

@@ -3,6 +3,8 @@ ghost use Rattle.definitions.specs.Disk.{HasRisen};
 ghost use Rattle.definitions.specs.Zones.{top};
 ghost use Rattle.dump_core.specs.Cores.{core_of, told_runs};
 ghost use Rattle.command_kit.specs.Told.{FailsToPrint, IsPrinted, IsTold};
+ghost use Rattle.command_kit.specs.Causes.{HasCause};
+ghost use Rattle.swsusp_cli.specs.Streams.{streams_view};
 ghost use Rattle.command_kit.specs.View.{DiskView, sink_view};
 ghost use Rattle.machine_cli.specs.Cored.{Cores, core_told};
 
@@ -22,23 +24,11 @@ pub fn core<I: Source, O: Sink, N: Sink>(
     out: &mut O,
     note: &mut N,
 ) -> Status
-    ensures outcome { (disk : DiskView) → Cores (record {
-      left = I.remaining input.old;
-      read_faults = I.faults input.old;
-      disk = disk;
-      out = sink_view O.Sink out.old;
-      note = sink_view N.Sink note.old;
-    }) (record {
-      left = I.remaining input.new;
-      read_faults = I.faults input.new;
-      disk = disk;
-      out = sink_view O.Sink out.new;
-      note = sink_view N.Sink note.new;
-    }) result }
-    ensures stream { result ≡ Status.Stream → HasRisen (I.faults input.old) (I.faults input.new)
-        ⊎ HasRisen (O.faults out.old) (O.faults out.new) ⊎ HasRisen (N.faults note.old) (N.faults note.new) }
-    ensures device { result ≢ Status.Device }
-    ensures words { result ≢ Status.Words }
+    ensures outcome { (disk : DiskView) → Cores
+        (streams_view I.Source O.Sink N.Sink disk input.old out.old note.old)
+        (streams_view I.Source O.Sink N.Sink disk input.new out.new note.new) result }
+    ensures cause { HasCause (HasRisen (I.faults input.old) (I.faults input.new)
+        ⊎ HasRisen (O.faults out.old) (O.faults out.new) ⊎ HasRisen (N.faults note.old) (N.faults note.new)) ⊥ result }
 {
     let dump = match dump_of_input(alloc, input) {
         Ok(dump) => dump,

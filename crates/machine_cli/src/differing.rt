@@ -1,7 +1,8 @@
-ghost use Rattle.std.specs.Prelude.{◌≡◌, ◌≢◌, ◌⊎◌, ◌≤◌, ◌+◌, ◌++◌, ◌∷◌, [], decimal, length};
+ghost use Rattle.std.specs.Prelude.{◌≡◌, ◌⊎◌, ◌≤◌, ◌+◌, ◌++◌, ◌∷◌, [], decimal, length};
 ghost use Rattle.definitions.specs.Disk.{HasRisen};
 ghost use Rattle.machine_cli.specs.Compared.{Compares, difference_told};
 ghost use Rattle.command_kit.specs.AnswerOf.{told_by};
+ghost use Rattle.command_kit.specs.Causes.{HasCause};
 ghost use Rattle.command_kit.specs.View.{sink_view};
 
 use byte_streams::{Line, Sink, Source};
@@ -28,11 +29,9 @@ pub fn differ<I: Source, J: Source, O: Sink, N: Sink>(
         (sink_view O.Sink out.new)
         (sink_view N.Sink note.old)
         (sink_view N.Sink note.new) }
-    ensures stream { result ≡ Status.Stream → HasRisen (I.faults first.old) (I.faults first.new)
+    ensures cause { HasCause (HasRisen (I.faults first.old) (I.faults first.new)
         ⊎ HasRisen (J.faults second.old) (J.faults second.new)
-        ⊎ HasRisen (O.faults out.old) (O.faults out.new) ⊎ HasRisen (N.faults note.old) (N.faults note.new) }
-    ensures device { result ≢ Status.Device }
-    ensures words { result ≢ Status.Words }
+        ⊎ HasRisen (O.faults out.old) (O.faults out.new) ⊎ HasRisen (N.faults note.old) (N.faults note.new)) ⊥ result }
 {
     let a = match dump_of_input(alloc, first) {
         Ok(dump) => dump,
@@ -48,9 +47,7 @@ pub fn differ<I: Source, J: Source, O: Sink, N: Sink>(
 /// Returns what is printed for the first difference of two dumps.
 fn told_of(difference: Option<Difference>) -> Answer
     ensures told { told_by result ≡ difference_told difference }
-    ensures status { result.status ≢ Status.Stream }
-    ensures device { result.status ≢ Status.Device }
-    ensures words { result.status ≢ Status.Words }
+    ensures cause { HasCause ⊥ ⊥ result.status }
 {
     let mut out = Line::new();
     let status = match difference {

@@ -1,4 +1,4 @@
-ghost use Rattle.std.specs.Prelude.{◌≡◌, ◌≢◌, ◌⊎◌, ◌≤◌, ◌<◌, ◌^◌, ℕ, All, List, length, take, MatchResult, OnErr, OnOk};
+ghost use Rattle.std.specs.Prelude.{◌≡◌, ◌⊎◌, ◌≤◌, ◌<◌, ◌^◌, ℕ, All, List, length, take, MatchResult, OnErr, OnOk};
 ghost use Rattle.definitions.specs.Disk.{HasRisen};
 ghost use Rattle.definitions.specs.Streams.{TakesAll, TakesFront};
 ghost use Rattle.plain_machine.specs.Fitting.{IsFitting};
@@ -7,21 +7,21 @@ ghost use Rattle.run_picture.specs.Lanes.{after, first};
 ghost use Rattle.run_picture.specs.Picture.{column, columns, picture, pictured};
 ghost use Rattle.run_picture.specs.Telling.{told_by};
 ghost use Rattle.world_core.specs.StandsFor.{IsOff, blocks_of, hardware_of};
-ghost use Rattle.command_kit.specs.Told.{IsTried, sink_note};
-ghost use Rattle.command_kit.specs.View.{disk_view, sink_view, view};
+ghost use Rattle.swsusp_cli.specs.Causes.{HasCauseIn};
+ghost use Rattle.command_kit.specs.View.{disk_view, view};
 ghost use Rattle.swsusp_cli.specs.Playing.{HasPlayed};
 ghost use Rattle.swsusp_cli.specs.Outcome.{HandsOutAtMost};
 ghost use Rattle.machine_cli.specs.Drawn.{IsDrawn};
 
 use byte_streams::{Line, Sink, Source};
-use command_kit::{Status, no_memory, print, tell};
+use command_kit::{Status, no_memory, tell};
 use page_core::{Failed, NoMemory};
 use plain_machine::{Event, Reply};
 use run_picture::{Lanes, put_column, put_foot, put_head};
 use script::line_of;
 use sector_disk::Disk;
 use std::alloc::Global;
-use swsusp_cli::{parse_input, set_up};
+use swsusp_cli::{cut_off, parse_input, set_up};
 use world_core::World;
 
 /// Plays a script over a disk, and writes a picture of what happens, event by event.
@@ -36,10 +36,9 @@ pub fn draw<I: Source, O: Sink, N: Sink, D: Disk>(
     ensures outcome { IsDrawn
         (view I.Source O.Sink N.Sink D.Disk input.old out.old note.old disk.old)
         (view I.Source O.Sink N.Sink D.Disk input.new out.new note.new disk.new) result }
-    ensures stream { result ≡ Status.Stream → HasRisen (I.faults input.old) (I.faults input.new)
-        ⊎ HasRisen (O.faults out.old) (O.faults out.new) ⊎ HasRisen (N.faults note.old) (N.faults note.new) }
-    ensures device { result ≡ Status.Device → HasRisen (D.faults disk.old) (D.faults disk.new) }
-    ensures words { result ≢ Status.Words }
+    ensures cause { HasCauseIn
+        (view I.Source O.Sink N.Sink D.Disk input.old out.old note.old disk.old)
+        (view I.Source O.Sink N.Sink D.Disk input.new out.new note.new disk.new) result }
     ensures read { HandsOutAtMost 1048577 (I.remaining input.old) (I.remaining input.new) }
 {
     let script = match parse_input(alloc, input) {
@@ -151,15 +150,4 @@ fn put_event<O: Sink>(
     let mut line = Line::new();
     line_of(reply, &mut line);
     put_column(out, lanes, event, reply, line.as_bytes())
-}
-
-/// Notes, once, that out failed.
-fn cut_off<N: Sink>(note: &mut N) -> Status
-    ensures status { result ≡ Status.Stream }
-    ensures note { IsTried sink_note
-        (sink_view N.Sink note.old)
-        (sink_view N.Sink note.new) }
-{
-    let _ = print(note, b"sink fault\n");
-    Status::Stream
 }

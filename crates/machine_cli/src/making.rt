@@ -1,8 +1,8 @@
-ghost use Rattle.std.specs.Prelude.{◌≡◌, ◌≢◌, ◌⊎◌, ◌≤◌, ◌+◌};
-ghost use Rattle.definitions.specs.Disk.{HasRisen};
+ghost use Rattle.std.specs.Prelude.{◌≡◌};
 ghost use Rattle.machine_cli.specs.Made.{IsMade, idle_told};
 ghost use Rattle.command_kit.specs.AnswerOf.{told_by};
 ghost use Rattle.swsusp_cli.specs.Outcome.{HandsOutAtMost};
+ghost use Rattle.swsusp_cli.specs.Causes.{HasCauseIn};
 ghost use Rattle.command_kit.specs.View.{view};
 
 use byte_streams::{Line, Sink, Source};
@@ -26,10 +26,9 @@ pub fn make<I: Source, O: Sink, N: Sink, D: Disk>(
     ensures outcome { IsMade
         (view I.Source O.Sink N.Sink D.Disk input.old out.old note.old disk.old)
         (view I.Source O.Sink N.Sink D.Disk input.new out.new note.new disk.new) result }
-    ensures stream { result ≡ Status.Stream → HasRisen (I.faults input.old) (I.faults input.new)
-        ⊎ HasRisen (O.faults out.old) (O.faults out.new) ⊎ HasRisen (N.faults note.old) (N.faults note.new) }
-    ensures device { result ≡ Status.Device → HasRisen (D.faults disk.old) (D.faults disk.new) }
-    ensures words { result ≢ Status.Words }
+    ensures cause { HasCauseIn
+        (view I.Source O.Sink N.Sink D.Disk input.old out.old note.old disk.old)
+        (view I.Source O.Sink N.Sink D.Disk input.new out.new note.new disk.new) result }
     ensures read { HandsOutAtMost 1048577 (I.remaining input.old) (I.remaining input.new) }
 {
     let script = match parse_input(alloc, input) {

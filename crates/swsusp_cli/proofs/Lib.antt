@@ -1,5 +1,6 @@
 pub mod Answered
 pub mod Blocks
+pub mod Causes
 pub mod Crashed
 pub mod Feeding
 pub mod Formatted

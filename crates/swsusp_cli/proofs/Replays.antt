@@ -1,5 +1,5 @@
 -- From events played over a formatted disk to a run of the plain machine.
-use Rattle.std.proofs.Common.{◌≡◌, ◌≢◌, ◌⊎◌, inl, inr, ◌≤◌, ◌<◌, ℕ, ◌+◌, ◌*◌, List, ◌++◌, length, take, Some, None, refl, sym, ap, ◌∙◌, subst, arith}
+use Rattle.std.proofs.Common.{◌≡◌, ◌⊎◌, inl, inr, ◌≤◌, ◌<◌, ℕ, ◌+◌, ◌*◌, List, ◌++◌, length, take, Some, None, refl, sym, ap, ◌∙◌, subst, arith}
 use Rattle.std.proofs.Math.Nat.{min-le_left, min-le_right}
 use Rattle.std.proofs.lemmas.List.{length-take, take_all}
 use Rattle.std.proofs.lemmas.List.Sums.{count_by-le-length, length-filter}
@@ -35,7 +35,6 @@ use Rattle.swsusp_cli.specs.declared.formatting.Unformatted.TheVariants.{Write, 
 use Rattle.swsusp_cli.specs.declared.setting_up.Unready.{Unready}
 use Rattle.swsusp_cli.specs.declared.setting_up.Unready.TheVariants.{Small, Unformatted as NotFormatted}
 use Rattle.command_kit.specs.declared.status.Status.{Status}
-use Rattle.command_kit.specs.declared.status.Status.TheVariants.{Stream, Device}
 use Rattle.world_runs.proofs.Leaving.{leaves_then}
 use Rattle.swsusp_cli.proofs.Formatted.{CanFormat, formatted_unmarked, formats_leaves, formats_size}
 use Rattle.swsusp_cli.proofs.Prints.{printed_then, whole_still, fails_early}
@@ -139,17 +138,6 @@ stands_at_end script old new events replies before between now whole whole_betwe
 pub risen_of : (script : ScriptValue) (x x' : DiskView) (why : Unready) → IsNotSetUp script x x' why → IsOfCall why → disk.HasRisen x.faults x'.faults
 risen_of script x x' (Small blocks need) is of_call = absurd of_call
 risen_of script x x' (NotFormatted call) is of_call = is.risen
-
-abbrev of_stream : Status → Type 0
-of_stream Stream = ⊤
-of_stream _ = ⊥
-
-device≢stream : Device ≢ Stream
-device≢stream e = subst of_stream (sym e) tt
-
--- a status that isn't `Stream` is the answer's own
-pub told_status : (status told : Status) → (status ≢ Stream → status ≡ told) → status ≡ Device → told ≡ Device
-told_status status told same is = sym (same (λ stream. device≢stream (sym is ∙ stream))) ∙ is
 
 -- A script whose machine isn't set up, as it is told.
 pub not_set_up : (x x' : View) (status : Status) (script : ScriptValue) (why : Unready) → IsScript x x' script → IsNotSetUp script x.disk x'.disk why → Tells (unready_told why) status x x' → IsReplayed x x' status

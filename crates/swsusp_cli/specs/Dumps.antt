@@ -59,13 +59,16 @@ abbrev pub is_hibernated : Reply → Bool
 is_hibernated (reply.Hibernated n) = true
 is_hibernated _ = false
 
+-- the last reply of a command that succeeded, on out
+abbrev pub succeeded_told : Reply → RunResult
+succeeded_told reply = record { status = Done; out = line_of reply; note = [] }
+
 abbrev pub stopped_told : Ended → RunResult
 stopped_told ended = record { status = if ended.failed then Device else Refused; out = []; note = line_of ended.reply }
 
 abbrev pub hibernation_told : Ended → RunResult
 hibernation_told ended =
-    if is_hibernated ended.reply then record { status = Done; out = line_of ended.reply; note = [] }
-    else stopped_told ended
+    if is_hibernated ended.reply then succeeded_told ended.reply else stopped_told ended
 
 -- The dump's machine has hibernated, or has replied why it doesn't. Cached page frames were dropped first if a size was
 -- asked for. What the machine did over the disk is a run with this ending.

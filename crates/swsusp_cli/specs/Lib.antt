@@ -1,3 +1,4 @@
+pub mod Causes
 pub mod Choice
 pub mod Drills
 pub mod Dumps
@@ -12,4 +13,5 @@ pub mod Replay
 pub mod Run
 pub mod SettingUp
 pub mod Stops
+pub mod Streams
 pub mod Theorem

@@ -1,9 +1,9 @@
 -- The theorem: what the program does, whatever its words, its input, its disk and its sinks are. It is the one clause
 -- of `run` (src/top.rt). What follows from it, such as that an image is resumed at most once, is proved in
 -- proofs/Laws.antt.
-use Rattle.std.specs.Prelude.{◌≡◌, ◌≢◌, ◌⊎◌, List, ℕ, Option, Some, None, IsTrue, ⊤}
-use Rattle.definitions.specs.Disk.{HasRisen}
+use Rattle.std.specs.Prelude.{◌≡◌, ◌≢◌, List, ℕ, Option, Some, None, IsTrue, ⊤}
 use Rattle.byte_streams.specs.Flushed.{IsFlushed}
+use Rattle.command_kit.specs.Causes.{DiskFails, StreamsFail}
 use Rattle.command_kit.specs.View.{View}
 use Rattle.command_kit.specs.declared.status.Status.{Status}
 use Rattle.command_kit.specs.declared.status.Status.TheVariants as status
@@ -39,16 +39,15 @@ IsSafe D before after x x' (Some (import swap)) =
 IsSafe D before after x x' _ = ⊤
 
 -- Each status that reports a failure has its cause. Under every status but a stream's, all that was taken is flushed.
-pub record HasCause (asked : Option Asked) (x x' : View) (ends : Status) : Type 0 where
+pub record IsJustified (asked : Option Asked) (x x' : View) (ends : Status) : Type 0 where
   pub words : ends ≡ status.Words → asked ≡ None
-  pub stream : ends ≡ status.Stream → HasRisen x.read_faults x'.read_faults ⊎ HasRisen x.out.faults x'.out.faults
-      ⊎ HasRisen x.note.faults x'.note.faults
+  pub stream : ends ≡ status.Stream → StreamsFail x x'
   pub flushed : ends ≢ status.Stream → IsFlushed x'.out.taken x'.out.flushed × IsFlushed x'.note.taken x'.note.flushed
-  pub device : ends ≡ status.Device → HasRisen x.disk.faults x'.disk.faults
+  pub device : ends ≡ status.Device → DiskFails x x'
 
 -- What the program does, called with these words, the first of which is its name, over a disk before and after.
 pub record Promise {X : Type 0} (D : Ghosts X) (words : List (List ℕ)) (before after : X) (x x' : View)
     (ends : Status) : Type 0 where
   pub does : Does D before after x x' ends (command_of words)
   pub safe : IsTrue (D.tells_moments before) → IsSafe D before after x x' (command_of words)
-  pub cause : HasCause (command_of words) x x' ends
+  pub cause : IsJustified (command_of words) x x' ends

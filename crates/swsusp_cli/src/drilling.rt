@@ -1,4 +1,4 @@
-ghost use Rattle.std.specs.Prelude.{◌≡◌, ◌≢◌, ◌⊎◌, ◌≤◌, ◌+◌, ℕ, All, List, [], Option, length};
+ghost use Rattle.std.specs.Prelude.{◌≡◌, ◌⊎◌, ◌≤◌, ℕ, All, List, [], Option, length};
 ghost use Rattle.definitions.specs.Disk.{HasRisen};
 ghost use Rattle.plain_machine.specs.Fitting.{IsFitting};
 ghost use Rattle.plain_machine.specs.declared.reply.Reply.{Reply};
@@ -8,6 +8,7 @@ ghost use Rattle.swsusp_cli.specs.Drills.{IsDrilled};
 ghost use Rattle.swsusp_cli.specs.Playing.{HasPlayed};
 ghost use Rattle.command_kit.specs.declared.status.Status.TheVariants.{Done};
 ghost use Rattle.world_core.specs.StandsFor.{IsOff, blocks_of, hardware_of};
+ghost use Rattle.command_kit.specs.Causes.{HasCause};
 ghost use Rattle.command_kit.specs.View.{disk_view, sink_view};
 
 use crate::setting_up::set_up;
@@ -44,10 +45,9 @@ pub fn drill<O: Sink, N: Sink, D: Disk>(
       out = sink_view O.Sink out.new;
       note = sink_view N.Sink note.new;
     }) result }
-    ensures stream { result ≡ Status.Stream →
-        HasRisen (O.faults out.old) (O.faults out.new) ⊎ HasRisen (N.faults note.old) (N.faults note.new) }
-    ensures device { result ≡ Status.Device → HasRisen (D.faults disk.old) (D.faults disk.new) }
-    ensures words { result ≢ Status.Words }
+    ensures cause { HasCause
+        (HasRisen (O.faults out.old) (O.faults out.new) ⊎ HasRisen (N.faults note.old) (N.faults note.new))
+        (HasRisen (D.faults disk.old) (D.faults disk.new)) result }
 {
     let script = match generate(alloc, number) {
         Ok(script) => script,

@@ -1,11 +1,12 @@
-ghost use Rattle.std.specs.Prelude.{◌≡◌, ◌≢◌, ◌++◌, ◌≤◌, ℕ, List, length, true, Some, Ok, Err, IsOk, IfOk, IfErr};
+ghost use Rattle.std.specs.Prelude.{◌≡◌, ◌++◌, ◌≤◌, ℕ, List, length, true, Some, Ok, Err, IsOk, IfOk, IfErr};
 ghost use Rattle.definitions.specs.Disk.{HasRisen};
 ghost use Rattle.definitions.specs.Streams.{IsUsedUp};
 ghost use Rattle.dump_file.specs.Dump.{dump_of};
 ghost use Rattle.plain_machine.specs.Machine.{Fits, IsHardware};
 ghost use Rattle.world_core.specs.StandsFor.{IsNewWorld, hardware_of};
+ghost use Rattle.command_kit.specs.Causes.{HasCause};
 ghost use Rattle.command_kit.specs.AnswerOf.{told_by};
-ghost use Rattle.swsusp_cli.specs.Dumps.{dump_told, kind_text, stopped_told};
+ghost use Rattle.swsusp_cli.specs.Dumps.{dump_told, kind_text, stopped_told, succeeded_told};
 ghost use Rattle.swsusp_cli.specs.Stops.{LacksDump};
 
 use crate::stop::Stop;
@@ -80,12 +81,24 @@ fn put_kind(line: &mut Line, kind: DumpKind)
     });
 }
 
+/// Returns the answer to an operation that succeeded: its last reply, on out.
+pub fn succeeded(ended: &Ended) -> Answer
+    ensures told { told_by result ≡ succeeded_told ended.now.reply }
+    ensures status { result.status ≡ Status.Done }
+{
+    let mut out = Line::new();
+    line_of(&ended.reply, &mut out);
+    Answer {
+        status: Status::Done,
+        out,
+        note: Line::new(),
+    }
+}
+
 /// Returns the answer to an operation that didn't succeed: its last reply, as a note.
 pub fn stopped(ended: &Ended) -> Answer
     ensures told { told_by result ≡ stopped_told ended.now }
-    ensures status { result.status ≢ Status.Stream }
-    ensures words { result.status ≢ Status.Words }
-    ensures device { result.status ≡ Status.Device → ended.now.failed ≡ true }
+    ensures cause { HasCause ⊥ (ended.now.failed ≡ true) result.status }
 {
     let mut note = Line::new();
     line_of(&ended.reply, &mut note);

@@ -1,17 +1,17 @@
-ghost use Rattle.std.specs.Prelude.{◌≡◌, ◌≢◌, ◌⊎◌, ◌≤◌, ◌+◌, true, IsTrue};
-ghost use Rattle.definitions.specs.Disk.{HasRisen};
+ghost use Rattle.std.specs.Prelude.{◌≡◌, true};
 ghost use Rattle.swsusp_cli.specs.Dumps.{Hibernates};
 ghost use Rattle.command_kit.specs.AnswerOf.{told_by};
 ghost use Rattle.swsusp_cli.specs.Dumps.{hibernation_told};
+ghost use Rattle.swsusp_cli.specs.Causes.{HasCauseIn};
+ghost use Rattle.command_kit.specs.Causes.{HasCause};
 ghost use Rattle.command_kit.specs.View.{view};
 
-use crate::dump_input::{dump_of_input, machine_of, stopped};
-use byte_streams::{Line, Sink, Source};
+use crate::dump_input::{dump_of_input, machine_of, stopped, succeeded};
+use byte_streams::{Sink, Source};
 use command_core::{Ended, hibernate};
 use command_kit::{Answer, Status, no_memory};
 use page_core::{Format, NoMemory};
 use plain_machine::Reply;
-use script::line_of;
 use sector_disk::Disk;
 use std::alloc::Global;
 
@@ -38,10 +38,9 @@ pub fn hibernate_dump<I: Source, O: Sink, N: Sink, D: Disk>(
     ensures outcome { Hibernates D.Disk disk.old disk.new wanted.format wanted.size
         (view I.Source O.Sink N.Sink D.Disk input.old out.old note.old disk.old)
         (view I.Source O.Sink N.Sink D.Disk input.new out.new note.new disk.new) result }
-    ensures stream { result ≡ Status.Stream → HasRisen (I.faults input.old) (I.faults input.new)
-        ⊎ HasRisen (O.faults out.old) (O.faults out.new) ⊎ HasRisen (N.faults note.old) (N.faults note.new) }
-    ensures device { result ≡ Status.Device → HasRisen (D.faults disk.old) (D.faults disk.new) }
-    ensures words { result ≢ Status.Words }
+    ensures cause { HasCauseIn
+        (view I.Source O.Sink N.Sink D.Disk input.old out.old note.old disk.old)
+        (view I.Source O.Sink N.Sink D.Disk input.new out.new note.new disk.new) result }
 {
     let dump = match dump_of_input(alloc, input) {
         Ok(dump) => dump,
@@ -58,20 +57,10 @@ pub fn hibernate_dump<I: Source, O: Sink, N: Sink, D: Disk>(
 /// Returns the answer to a hibernation that has ended.
 fn hibernation_answer(ended: &Ended) -> Answer
     ensures told { told_by result ≡ hibernation_told ended.now }
-    ensures status { result.status ≢ Status.Stream }
-    ensures words { result.status ≢ Status.Words }
-    ensures device { result.status ≡ Status.Device → ended.now.failed ≡ true }
+    ensures cause { HasCause ⊥ (ended.now.failed ≡ true) result.status }
 {
     match ended.reply {
-        Reply::Hibernated { .. } => {
-            let mut out = Line::new();
-            line_of(&ended.reply, &mut out);
-            Answer {
-                status: Status::Done,
-                out,
-                note: Line::new(),
-            }
-        }
+        Reply::Hibernated { .. } => succeeded(ended),
         _ => stopped(ended),
     }
 }

@@ -1,4 +1,4 @@
-ghost use Rattle.std.specs.Prelude.{◌≡◌, ◌≢◌, ◌⊎◌, ◌≤◌, ◌<◌, ◌++◌, List, ℕ, [], IfOk, IfErr, IsTrue, OnErr, OnOk};
+ghost use Rattle.std.specs.Prelude.{◌≡◌, ◌≤◌, ◌<◌, ◌++◌, List, ℕ, [], IfOk, IfErr, IsTrue, OnErr, OnOk};
 ghost use Rattle.std.specs.Prelude.{length, vec_len};
 ghost use Rattle.definitions.specs.Disk.{HasRisen};
 ghost use Rattle.definitions.specs.Streams.{HandsOut, IsUsedUp};
@@ -7,11 +7,12 @@ ghost use Rattle.sig_header.specs.declared.area.Area.{Area};
 ghost use Rattle.stream_in.specs.Session.{IsFed, TakesInto};
 ghost use Rattle.stream_in.specs.Stops.{IsDiskStop};
 ghost use Rattle.stream_in.specs.Holding.{AreOfMap};
-ghost use Rattle.command_kit.specs.Told.{RunResult};
 ghost use Rattle.command_kit.specs.AnswerOf.{told_by};
 ghost use Rattle.swsusp_cli.specs.Imports.{ImportsInside};
 ghost use Rattle.swsusp_cli.specs.Feeding.{Feeds, IsOfDisk, IsOfSource, KeepsHeaders, TakesToEnd};
 ghost use Rattle.swsusp_cli.specs.Imports.{Ends, Imports, imported_told, kind_text, stop_told, stream_told};
+ghost use Rattle.swsusp_cli.specs.Causes.{HasCauseIn};
+ghost use Rattle.command_kit.specs.Causes.{HasCause};
 ghost use Rattle.command_kit.specs.View.{disk_view, view};
 
 use crate::replay::unread;
@@ -76,10 +77,9 @@ pub fn import_stream<I: Source, O: Sink, N: Sink, D: Disk>(
     ensures outcome { Imports
         (view I.Source O.Sink N.Sink D.Disk input.old out.old note.old disk.old)
         (view I.Source O.Sink N.Sink D.Disk input.new out.new note.new disk.new) result }
-    ensures stream { result ≡ Status.Stream → HasRisen (I.faults input.old) (I.faults input.new)
-        ⊎ HasRisen (O.faults out.old) (O.faults out.new) ⊎ HasRisen (N.faults note.old) (N.faults note.new) }
-    ensures device { result ≡ Status.Device → HasRisen (D.faults disk.old) (D.faults disk.new) }
-    ensures words { result ≢ Status.Words }
+    ensures cause { HasCauseIn
+        (view I.Source O.Sink N.Sink D.Disk input.old out.old note.old disk.old)
+        (view I.Source O.Sink N.Sink D.Disk input.new out.new note.new disk.new) result }
     ensures inside { IsTrue (D.tells_moments disk.old) → ImportsInside (I.remaining input.old) (I.remaining input.new)
         (D.moment disk.old) (D.moment disk.new) (D.left_since disk.old) (D.left_since disk.new) }
 {
@@ -192,9 +192,7 @@ fn imported(n: u32) -> Answer
 /// Returns the answer if no image was imported.
 fn not_imported(stop: InStop) -> Answer
     ensures told { told_by result ≡ stop_told stop }
-    ensures stream { result.status ≢ Status.Stream }
-    ensures words { result.status ≢ Status.Words }
-    ensures device { result.status ≡ Status.Device → IsDiskStop stop }
+    ensures cause { HasCause ⊥ (IsDiskStop stop) result.status }
 {
     match stop {
         InStop::NoMemory => no_memory(),

@@ -1,5 +1,6 @@
-ghost use Rattle.std.specs.Prelude.{◌≡◌, ◌≢◌, ◌+◌, ◌≤◌, ◌++◌, ◌⊎◌, [], ◌∷◌, length, codes, Some, min};
+ghost use Rattle.std.specs.Prelude.{◌≡◌, ◌+◌, ◌≤◌, ◌++◌, [], ◌∷◌, length, codes};
 ghost use Rattle.definitions.specs.Disk.{HasRisen};
+ghost use Rattle.command_kit.specs.Causes.{HasCause};
 ghost use Rattle.command_kit.specs.Told.{unread};
 ghost use Rattle.command_kit.specs.AnswerOf.{told_by};
 ghost use Rattle.swsusp_cli.specs.Run.{area_text, hw_text, image_text, inspected, refused};
@@ -18,9 +19,7 @@ use sig_header::{AreaKind, Mark};
 pub fn inspect<D: Disk>(disk: &mut D, offset: u32) -> Answer
     ensures answer { IsInspected offset (D.block_count disk.old) (D.content disk.old) (D.faults disk.old)
         (D.faults disk.new) (told_by result) }
-    ensures status { result.status ≢ Status.Stream }
-    ensures words { result.status ≢ Status.Words }
-    ensures device { result.status ≡ Status.Device → HasRisen (D.faults disk.old) (D.faults disk.new) }
+    ensures cause { HasCause ⊥ (HasRisen (D.faults disk.old) (D.faults disk.new)) result.status }
     ensures content { D.content disk.new ≡ D.content disk.old }
     ensures calls { D.calls disk.new ≡ calls_for offset (D.block_count disk.old) (D.calls disk.old) }
     ensures orders { D.orders disk.new ≡ D.orders disk.old }
@@ -36,8 +35,7 @@ pub fn inspect<D: Disk>(disk: &mut D, offset: u32) -> Answer
 
 fn unread() -> Answer
     ensures told { told_by result ≡ unread }
-    ensures status { result.status ≢ Status.Stream }
-    ensures words { result.status ≢ Status.Words }
+    ensures status { result.status ≡ Status.Device }
 {
     let mut note = Line::new();
     note.put(b"read fault same\n");
@@ -50,8 +48,7 @@ fn unread() -> Answer
 
 fn told_of(kind: &AreaKind) -> Answer
     ensures told { told_by result ≡ inspected kind.now }
-    ensures status { result.status ≢ Status.Stream }
-    ensures words { result.status ≢ Status.Words }
+    ensures cause { HasCause ⊥ ⊥ result.status }
 {
     match kind {
         AreaKind::Swap(area) => done(area_line(area.last, area.count)),
@@ -64,8 +61,7 @@ fn told_of(kind: &AreaKind) -> Answer
 
 fn done(out: Line) -> Answer
     ensures told { told_by result ≡ record { status = Status.Done; out = out; note = [] } }
-    ensures status { result.status ≢ Status.Stream }
-    ensures words { result.status ≢ Status.Words }
+    ensures status { result.status ≡ Status.Done }
 {
     Answer {
         status: Status::Done,
@@ -76,8 +72,7 @@ fn done(out: Line) -> Answer
 
 fn refused(why: NoSwap) -> Answer
     ensures told { told_by result ≡ refused why }
-    ensures status { result.status ≢ Status.Stream }
-    ensures words { result.status ≢ Status.Words }
+    ensures status { result.status ≡ Status.Refused }
 {
     let mut note = Line::new();
     put_no_swap(&mut note, &why);

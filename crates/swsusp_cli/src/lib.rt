@@ -19,9 +19,9 @@ mod top;
 
 pub use choosing::{Choice, swap_name};
 pub use drilling::play_through;
-pub use dump_input::{dump_of_input, machine_of, stopped};
+pub use dump_input::{dump_of_input, machine_of, stopped, succeeded};
 pub use playing::play;
-pub use replay::parse_input;
+pub use replay::{cut_off, parse_input};
 pub use resuming::tell_dump;
 pub use setting_up::{Unready, set_up};
 pub use stop::Stop;

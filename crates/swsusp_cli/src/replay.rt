@@ -1,7 +1,5 @@
-ghost use Rattle.std.specs.Prelude.{◌≡◌, ◌≢◌, ◌⊎◌, ◌≤◌, ◌+◌, ◌<◌, ◌^◌, Some, Ok, Err, IfOk, List, ℕ, All, length};
+ghost use Rattle.std.specs.Prelude.{◌≡◌, ◌≤◌, Ok, Err, IfOk, All, length};
 ghost use Rattle.definitions.specs.Disk.{HasRisen};
-ghost use Rattle.definitions.specs.Streams.{IsUsedUp};
-ghost use Rattle.script.specs.Grammar.{ScriptValue};
 ghost use Rattle.plain_machine.specs.Fitting.{IsFitting};
 ghost use Rattle.command_kit.specs.AnswerOf.{told_by};
 ghost use Rattle.swsusp_cli.specs.Outcome.{IsReplayed, fault_told};
@@ -10,6 +8,7 @@ ghost use Rattle.swsusp_cli.specs.Outcome.{HandsOutAtMost};
 ghost use Rattle.swsusp_cli.specs.Replay.{unread_note};
 ghost use Rattle.command_kit.specs.Told.{done};
 ghost use Rattle.command_kit.specs.Told.{IsTried, sink_note};
+ghost use Rattle.swsusp_cli.specs.Causes.{HasCauseIn};
 ghost use Rattle.command_kit.specs.View.{sink_view, view};
 
 use crate::playing::play;
@@ -36,10 +35,9 @@ pub fn replay<I: Source, O: Sink, N: Sink, D: Disk>(
     ensures outcome { IsReplayed
         (view I.Source O.Sink N.Sink D.Disk input.old out.old note.old disk.old)
         (view I.Source O.Sink N.Sink D.Disk input.new out.new note.new disk.new) result }
-    ensures stream { result ≡ Status.Stream → HasRisen (I.faults input.old) (I.faults input.new)
-        ⊎ HasRisen (O.faults out.old) (O.faults out.new) ⊎ HasRisen (N.faults note.old) (N.faults note.new) }
-    ensures device { result ≡ Status.Device → HasRisen (D.faults disk.old) (D.faults disk.new) }
-    ensures words { result ≢ Status.Words }
+    ensures cause { HasCauseIn
+        (view I.Source O.Sink N.Sink D.Disk input.old out.old note.old disk.old)
+        (view I.Source O.Sink N.Sink D.Disk input.new out.new note.new disk.new) result }
     ensures read { HandsOutAtMost 1048577 (I.remaining input.old) (I.remaining input.new) }
 {
     let script = match parse_input(alloc, input) {
@@ -86,7 +84,7 @@ pub fn unread<N: Sink>(note: &mut N) -> Status
 }
 
 /// Tries to note that out failed, once.
-fn cut_off<N: Sink>(note: &mut N) -> Status
+pub fn cut_off<N: Sink>(note: &mut N) -> Status
     ensures status { result ≡ Status.Stream }
     ensures note { IsTried sink_note
         (sink_view N.Sink note.old)

@@ -1,10 +1,12 @@
-ghost use Rattle.std.specs.Prelude.{◌≡◌, ◌≢◌, ◌⊎◌, ◌≤◌, ◌+◌, length, [], true, IsTrue, OnOk, OnErr};
+ghost use Rattle.std.specs.Prelude.{◌≡◌, ◌≢◌, ◌⊎◌, ◌≤◌, length, true, OnOk, OnErr};
 ghost use Rattle.definitions.specs.Disk.{HasRisen};
 ghost use Rattle.swsusp_cli.specs.Loads.{Resumes};
 ghost use Rattle.definitions.specs.Zones.{top};
 ghost use Rattle.dump_file.specs.Written.{dump_bytes};
 ghost use Rattle.swsusp_cli.specs.Loads.{is_resumed, resume_told, written_told};
 ghost use Rattle.command_kit.specs.Told.{FailsToPrint, IsPrinted, IsTold};
+ghost use Rattle.swsusp_cli.specs.Causes.{HasCauseIn};
+ghost use Rattle.command_kit.specs.Causes.{HasCause};
 ghost use Rattle.command_kit.specs.View.{sink_view, view};
 
 use crate::dump_input::{dump_of_input, machine_of, stopped};
@@ -33,10 +35,9 @@ pub fn resume_dump<I: Source, O: Sink, N: Sink, D: Disk>(
     ensures outcome { Resumes D.Disk disk.old disk.new check
         (view I.Source O.Sink N.Sink D.Disk input.old out.old note.old disk.old)
         (view I.Source O.Sink N.Sink D.Disk input.new out.new note.new disk.new) result }
-    ensures stream { result ≡ Status.Stream → HasRisen (I.faults input.old) (I.faults input.new)
-        ⊎ HasRisen (O.faults out.old) (O.faults out.new) ⊎ HasRisen (N.faults note.old) (N.faults note.new) }
-    ensures device { result ≡ Status.Device → HasRisen (D.faults disk.old) (D.faults disk.new) }
-    ensures words { result ≢ Status.Words }
+    ensures cause { HasCauseIn
+        (view I.Source O.Sink N.Sink D.Disk input.old out.old note.old disk.old)
+        (view I.Source O.Sink N.Sink D.Disk input.new out.new note.new disk.new) result }
 {
     let dump = match dump_of_input(alloc, input) {
         Ok(dump) => dump,
@@ -65,10 +66,9 @@ fn tell_end<O: Sink, N: Sink>(
         (sink_view O.Sink out.new)
         (sink_view N.Sink note.old)
         (sink_view N.Sink note.new) }
-    ensures stream { result ≡ Status.Stream →
-        HasRisen (O.faults out.old) (O.faults out.new) ⊎ HasRisen (N.faults note.old) (N.faults note.new) }
-    ensures words { result ≢ Status.Words }
-    ensures device { result ≡ Status.Device → ended.now.failed ≡ true }
+    ensures cause { HasCause
+        (HasRisen (O.faults out.old) (O.faults out.new) ⊎ HasRisen (N.faults note.old) (N.faults note.new))
+        (ended.now.failed ≡ true) result }
 {
     if !is_resumed(&ended.reply) {
         return stopped(ended).tell(out, note);

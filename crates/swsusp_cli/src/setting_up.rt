@@ -32,16 +32,15 @@ impl From<Unformatted> for Unready {
 }
 
 impl Unready {
-    ghost use Rattle.std.specs.Prelude.{◌≡◌, ◌≢◌};
+    ghost use Rattle.std.specs.Prelude.{◌≡◌};
     ghost use Rattle.command_kit.specs.AnswerOf.{told_by};
+    ghost use Rattle.command_kit.specs.Causes.{HasCause};
     ghost use Rattle.swsusp_cli.specs.SettingUp.{IsFailedCall, unready_told};
 
     /// Returns what the program answers if the set-up fails.
     pub fn answer(self) -> Answer
         ensures told { told_by result ≡ unready_told self }
-        ensures stream { result.status ≢ Status.Stream }
-        ensures words { result.status ≢ Status.Words }
-        ensures device { result.status ≡ Status.Device → IsFailedCall self }
+        ensures cause { HasCause ⊥ (IsFailedCall self) result.status }
     {
         match self {
             Unready::Small { blocks, need } => too_small(blocks, need),

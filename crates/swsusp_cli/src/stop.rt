@@ -25,9 +25,10 @@ pub enum Stop {
 }
 
 impl Stop {
-    ghost use Rattle.std.specs.Prelude.{◌≡◌, ◌≢◌, ◌⊎◌};
+    ghost use Rattle.std.specs.Prelude.{◌≡◌, ◌⊎◌};
     ghost use Rattle.definitions.specs.Disk.{HasRisen};
     ghost use Rattle.swsusp_cli.specs.Stops.{IsStopTold};
+    ghost use Rattle.command_kit.specs.Causes.{HasCause};
     ghost use Rattle.command_kit.specs.View.{sink_view};
 
     /// Prints why, and returns the status that the command ends with.
@@ -37,11 +38,8 @@ impl Stop {
             (sink_view O.Sink out.new)
             (sink_view N.Sink note.old)
             (sink_view N.Sink note.new) }
-        ensures stream { result ≡ Status.Stream →
-            (self ≡ stop.Source) ⊎ HasRisen (O.faults out.old) (O.faults out.new)
-            ⊎ HasRisen (N.faults note.old) (N.faults note.new) }
-        ensures device { result ≢ Status.Device }
-        ensures words { result ≢ Status.Words }
+        ensures cause { HasCause ((self ≡ stop.Source) ⊎ HasRisen (O.faults out.old) (O.faults out.new)
+            ⊎ HasRisen (N.faults note.old) (N.faults note.new)) ⊥ result }
     {
         match self {
             Stop::Source => unread(note),

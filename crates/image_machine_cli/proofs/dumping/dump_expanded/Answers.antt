@@ -3,6 +3,7 @@ use Rattle.command_kit.specs.Told.{RunResult}
 use Rattle.command_kit.specs.Told.{IsTold}
 use Rattle.command_kit.specs.View.{sink_view}
 use Rattle.image_cli.specs.Printed.{printer_view}
+use Rattle.image_cli.proofs.Causes.{memory_cause}
 use Rattle.expanded_disk.specs.Keeps.{FailsWith}
 use Rattle.expanded_cli.specs.Runs.{lacks}
 use Rattle.expanded_cli.specs.Streams.{NotesMemory}
@@ -26,7 +27,7 @@ returns-in-Ok-clause-outcome g c =
     state.content _ layout.offset _ _ _ state.faults (g.B.ReadOnly.state c.into_below.result).faults c.args.image.index
     c.in-Ok.ensures.content c.in-Ok.ensures.blocks c.in-Ok.ensures.faults
     (subst (λ below. FailsWith state.content state.faults (g.B.ReadOnly.state below).faults c.dump_from-status.new.disk.faults) (sym c.into_below.ensures.below)
-    (c.into_source.ensures.cause layout.offset (c.dump_from-status.ensures.content ∙ c.in-Ok.ensures.content) (c.dump_from-status.ensures.orders ∙ c.in-Ok.ensures.orders)))
+    (c.into_source.ensures.cause layout.offset (c.dump_from-status.ensures.disk.content ∙ c.in-Ok.ensures.content) (c.dump_from-status.ensures.disk.orders ∙ c.in-Ok.ensures.orders)))
     (c.dump_from-status.ensures.outcome state.content c.requires.headed)
 
 pub returns-in-Err-clause-outcome : goal.returns-in-Err-clause-outcome
@@ -38,3 +39,7 @@ returns-in-Err-clause-outcome g c =
       ends = subst (λ (r : RunResult). IsTold r c.tell-status.result (sink_view g.O.Sink c.args.out.now) (sink_view g.O.Sink c.tell-status.new.out) noted (sink_view g.N.Sink c.tell-status.new.note))
           c.no_memory.ensures.told c.tell-status.ensures.told;
     })
+
+pub returns-in-Err-clause-cause : goal.returns-in-Err-clause-cause
+returns-in-Err-clause-cause g c =
+    memory_cause c.no_memory.result.status c.tell-status.result c.no_memory.ensures.status c.tell-status.ensures.stream c.tell-status.ensures.status

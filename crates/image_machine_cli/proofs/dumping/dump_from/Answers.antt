@@ -1,12 +1,13 @@
-use Rattle.std.proofs.Common.{IfOk, refl, ap, subst, inl, inr}
+use Rattle.std.proofs.Common.{IfOk, refl, ap, subst, arith}
 use Rattle.command_kit.specs.Told.{RunResult}
 use Rattle.command_kit.specs.Told.{IsTold}
 use Rattle.command_kit.specs.View.{sink_view}
 use Rattle.image_check.specs.Told.{Told}
 use Rattle.image_cli.specs.Printed.{printer_view}
+use Rattle.image_cli.proofs.Causes.{cause_later, memory_cause}
 use Rattle.image_machine_cli.specs.Loads.{made, no_memory}
 use Rattle.image_machine_cli.specs.Makes.{MakesWanted}
-use Rattle.image_machine_cli.proofs.Noting.{later, same_faults, wanted_counted, wanted_frames}
+use Rattle.image_machine_cli.proofs.Noting.{same_faults, wanted_counted, wanted_frames}
 use Rattle.image_machine_cli.proofs.dumping.dump_from.Goals as goal
 
 pub tell_made-requires : goal.tell_made-requires
@@ -42,8 +43,8 @@ returns-in-Err-clause-outcome g c = λ area headed.
     (record { text = ap (λ (t : Told). t.text) untold; faults = ap (λ (t : Told). t.faults) untold })
     (subst (λ (r : RunResult). IsTold r c.tell.result (sink_view g.O.Sink c.args.out.now) (sink_view g.O.Sink c.tell.new.out) (sink_view g.N.Sink c.make_from.new.report.sink) (sink_view g.N.Sink c.tell.new.note)) c.no_memory.ensures.told c.tell.ensures.told)
 
-pub returns-in-Ok-clause-stream : goal.returns-in-Ok-clause-stream
-returns-in-Ok-clause-stream g c = λ e.
+pub returns-in-Ok-clause-cause : goal.returns-in-Ok-clause-cause
+returns-in-Ok-clause-cause g c =
     let old = printer_view g.N.Sink c.args.note.now in
     let mid = printer_view g.N.Sink c.make_from.new.report in
     let area = c.requires.headed.0 in
@@ -54,16 +55,17 @@ returns-in-Ok-clause-stream g c = λ e.
     let layout = c.args.asked.now.layout in
     let makes = subst (λ r. IfOk r (MakesWanted c.args.wanted area content blocks 0 before then old mid layout)) c.in-Ok.is (c.make_from.ensures.made area c.requires.headed.1) in
     let counted = wanted_counted c.args.wanted area content blocks 0 before then old mid layout c.in-Ok.made makes in
-    elim (c.tell_made.ensures.stream e) [
-      | inl risen ↦ inl risen
-      | inr risen ↦ inr (later old.faults mid.faults (g.N.Sink.faults c.tell_made.new.note) counted risen)
-    ]
+    let out = sink_view g.O.Sink c.args.out.now in
+    cause_later c.tell_made.result out out (sink_view g.O.Sink c.tell_made.new.out)
+    (sink_view g.N.Sink c.args.note.now.sink) (sink_view g.N.Sink c.make_from.new.report.sink) (sink_view g.N.Sink c.tell_made.new.note)
+    (omega arith) counted c.tell_made.ensures.cause
 
-pub returns-in-Err-clause-stream : goal.returns-in-Err-clause-stream
-returns-in-Err-clause-stream g c = λ e.
+pub returns-in-Err-clause-cause : goal.returns-in-Err-clause-cause
+returns-in-Err-clause-cause g c =
     let old = printer_view g.N.Sink c.args.note.now in
     let mid = printer_view g.N.Sink c.make_from.new.report in
-    elim (c.tell.ensures.stream e) [
-      | inl risen ↦ inl risen
-      | inr risen ↦ inr (later old.faults mid.faults (g.N.Sink.faults c.tell.new.note) (same_faults old mid c.in-Err.ensures.untold) risen)
-    ]
+    let out = sink_view g.O.Sink c.args.out.now in
+    cause_later c.tell.result out out (sink_view g.O.Sink c.tell.new.out)
+    (sink_view g.N.Sink c.args.note.now.sink) (sink_view g.N.Sink c.make_from.new.report.sink) (sink_view g.N.Sink c.tell.new.note)
+    (omega arith) (same_faults old mid c.in-Err.ensures.untold)
+    (memory_cause c.no_memory.result.status c.tell.result c.no_memory.ensures.status c.tell.ensures.stream c.tell.ensures.status)

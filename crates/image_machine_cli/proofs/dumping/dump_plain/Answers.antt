@@ -1,11 +1,12 @@
-use Rattle.std.proofs.Common.{refl, ap, subst, inl, inr}
+use Rattle.std.proofs.Common.{refl, ap, subst, arith}
 use Rattle.command_kit.specs.Told.{RunResult}
 use Rattle.command_kit.specs.Told.{IsTold}
 use Rattle.command_kit.specs.View.{sink_view}
 use Rattle.image_check.specs.Told.{Told}
 use Rattle.image_cli.specs.Printed.{printer_view}
+use Rattle.image_cli.proofs.Causes.{cause_later, memory_cause}
 use Rattle.image_machine_cli.specs.Loads.{made, no_memory}
-use Rattle.image_machine_cli.proofs.Noting.{later, same_faults, wanted_counted}
+use Rattle.image_machine_cli.proofs.Noting.{same_faults, wanted_counted}
 use Rattle.image_machine_cli.proofs.dumping.dump_plain.Goals as goal
 
 pub returns-in-Ok-clause-outcome : goal.returns-in-Ok-clause-outcome
@@ -20,23 +21,24 @@ returns-in-Err-clause-outcome g c =
     (record { text = ap (λ (t : Told). t.text) untold; faults = ap (λ (t : Told). t.faults) untold })
     (subst (λ (r : RunResult). IsTold r c.tell.result (sink_view g.O.Sink c.args.out.now) (sink_view g.O.Sink c.tell.new.out) (sink_view g.N.Sink c.make_plain.new.report.sink) (sink_view g.N.Sink c.tell.new.note)) c.no_memory.ensures.told c.tell.ensures.told)
 
-pub returns-in-Ok-clause-stream : goal.returns-in-Ok-clause-stream
-returns-in-Ok-clause-stream g c = λ e.
+pub returns-in-Ok-clause-cause : goal.returns-in-Ok-clause-cause
+returns-in-Ok-clause-cause g c =
     let old = printer_view g.N.Sink c.args.note.now in
     let mid = printer_view g.N.Sink c.make_plain.new.report in
     let content = g.D.Disk.content c.args.disk.now in
     let layout = c.args.layout.now in
     let counted = wanted_counted c.args.wanted content content (g.D.Disk.block_count c.args.disk.now) layout.offset (g.D.Disk.faults c.args.disk.now) (g.D.Disk.faults c.make_plain.new.disk) old mid layout c.in-Ok.made c.in-Ok.ensures.made in
-    elim (c.tell_made.ensures.stream e) [
-      | inl risen ↦ inl risen
-      | inr risen ↦ inr (later old.faults mid.faults (g.N.Sink.faults c.tell_made.new.note) counted risen)
-    ]
+    let out = sink_view g.O.Sink c.args.out.now in
+    cause_later c.tell_made.result out out (sink_view g.O.Sink c.tell_made.new.out)
+    (sink_view g.N.Sink c.args.note.now.sink) (sink_view g.N.Sink c.make_plain.new.report.sink) (sink_view g.N.Sink c.tell_made.new.note)
+    (omega arith) counted c.tell_made.ensures.cause
 
-pub returns-in-Err-clause-stream : goal.returns-in-Err-clause-stream
-returns-in-Err-clause-stream g c = λ e.
+pub returns-in-Err-clause-cause : goal.returns-in-Err-clause-cause
+returns-in-Err-clause-cause g c =
     let old = printer_view g.N.Sink c.args.note.now in
     let mid = printer_view g.N.Sink c.make_plain.new.report in
-    elim (c.tell.ensures.stream e) [
-      | inl risen ↦ inl risen
-      | inr risen ↦ inr (later old.faults mid.faults (g.N.Sink.faults c.tell.new.note) (same_faults old mid c.in-Err.ensures.untold) risen)
-    ]
+    let out = sink_view g.O.Sink c.args.out.now in
+    cause_later c.tell.result out out (sink_view g.O.Sink c.tell.new.out)
+    (sink_view g.N.Sink c.args.note.now.sink) (sink_view g.N.Sink c.make_plain.new.report.sink) (sink_view g.N.Sink c.tell.new.note)
+    (omega arith) (same_faults old mid c.in-Err.ensures.untold)
+    (memory_cause c.no_memory.result.status c.tell.result c.no_memory.ensures.status c.tell.ensures.stream c.tell.ensures.status)

@@ -1,8 +1,10 @@
-use Rattle.std.proofs.Common.{◌≡◌, refl, subst, Err, ap}
+use Rattle.std.proofs.Common.{◌≡◌, inr, refl, subst, Err, ap}
 use Rattle.dump_file.specs.Dump.{DumpValue}
 use Rattle.command_kit.specs.Told.{RunResult}
 use Rattle.command_kit.specs.Told.{IsTold}
 use Rattle.command_kit.specs.View.{SinkView}
+use Rattle.command_kit.specs.declared.status.Status.TheVariants.{Memory}
+use Rattle.swsusp_cli.proofs.Causes.{blameless, memory_cause, stop_cause, told_cause}
 use Rattle.swsusp_cli.proofs.Inputs.{without_dump}
 use Rattle.machine_cli.specs.Checked.{no_dump, out_of_memory, unread, foretold}
 use Rattle.machine_cli.proofs.Foretold.{few_more, foretold_by}
@@ -45,3 +47,15 @@ returns-clause-outcome g c =
       told = subst (λ (t : RunResult). IsTold t tell.result out (record { taken = g.O.Sink.taken tell.new.out; flushed = g.O.Sink.flushed tell.new.out; faults = g.O.Sink.faults tell.new.out }) note (record { taken = g.N.Sink.taken tell.new.note; flushed = g.N.Sink.flushed tell.new.note; faults = g.N.Sink.faults tell.new.note })) c.no_memory-in-Err-would_resume.ensures.told tell.ensures.told;
       only_read = record { content = c.would_resume.ensures.untouched; orders = c.would_resume.ensures.orders; calls = c.would_resume.ensures.calls };
     })
+
+pub returns-in-Err-clause-cause : goal.returns-in-Err-clause-cause
+returns-in-Err-clause-cause g c = stop_cause c.tell.result c.tell.ensures.cause (λ e. c.in-Err.ensures.cause (ap Err e))
+
+pub returns-in-Err-machine_of-clause-cause : goal.returns-in-Err-machine_of-clause-cause
+returns-in-Err-machine_of-clause-cause g c = blameless c.tell-in-Err-machine_of.result c.no_memory.result.status Memory memory_cause c.no_memory.ensures.status (λ is. inr (c.tell-in-Err-machine_of.ensures.stream is)) c.tell-in-Err-machine_of.ensures.status
+
+pub returns-in-Ok-would_resume-clause-cause : goal.returns-in-Ok-would_resume-clause-cause
+returns-in-Ok-would_resume-clause-cause g c = told_cause c.tell-in-Ok-would_resume.result c.foretold.result.status (λ is. inr (c.tell-in-Ok-would_resume.ensures.stream is)) c.tell-in-Ok-would_resume.ensures.status c.foretold.ensures.cause c.in-Ok-would_resume.ensures.cause
+
+pub returns-clause-cause : goal.returns-clause-cause
+returns-clause-cause g c = blameless c.tell-in-Err-would_resume.result c.no_memory-in-Err-would_resume.result.status Memory memory_cause c.no_memory-in-Err-would_resume.ensures.status (λ is. inr (c.tell-in-Err-would_resume.ensures.stream is)) c.tell-in-Err-would_resume.ensures.status

@@ -1,8 +1,10 @@
-use Rattle.std.proofs.Common.{refl, subst, Err, ap}
+use Rattle.std.proofs.Common.{inr, refl, subst, Err, ap}
 use Rattle.dump_file.specs.Dump.{DumpValue}
 use Rattle.command_kit.specs.Told.{RunResult}
 use Rattle.command_kit.specs.Told.{IsTold}
 use Rattle.command_kit.specs.View.{SinkView}
+use Rattle.command_kit.specs.declared.status.Status.TheVariants.{Done, Memory}
+use Rattle.swsusp_cli.proofs.Causes.{blameless, done_cause, memory_cause, stop_cause}
 use Rattle.swsusp_cli.proofs.Inputs.{without_dump}
 use Rattle.machine_cli.specs.Cored.{cored, no_dump, out_of_memory, unread}
 use Rattle.machine_cli.proofs.coring.core.Goals as goal
@@ -21,3 +23,12 @@ returns-clause-outcome g c disk =
     let out : SinkView = record { taken = g.O.Sink.taken c.args.out.now; flushed = g.O.Sink.flushed c.args.out.now; faults = g.O.Sink.faults c.args.out.now } in
     let note : SinkView = record { taken = g.N.Sink.taken c.args.note.now; flushed = g.N.Sink.flushed c.args.note.now; faults = g.N.Sink.faults c.args.note.now } in
     out_of_memory (record { told = subst (λ (t : RunResult). IsTold t tell.result out (record { taken = g.O.Sink.taken tell.new.out; flushed = g.O.Sink.flushed tell.new.out; faults = g.O.Sink.faults tell.new.out }) note (record { taken = g.N.Sink.taken tell.new.note; flushed = g.N.Sink.flushed tell.new.note; faults = g.N.Sink.faults tell.new.note })) c.no_memory.ensures.told tell.ensures.told; untouched = refl {a = disk} })
+
+pub returns-in-Err-clause-cause : goal.returns-in-Err-clause-cause
+returns-in-Err-clause-cause g c = stop_cause c.tell.result c.tell.ensures.cause (λ e. c.in-Err.ensures.cause (ap Err e))
+
+pub returns-in-Ok-told_runs-clause-cause : goal.returns-in-Ok-told_runs-clause-cause
+returns-in-Ok-told_runs-clause-cause g c = blameless c.tell_core.result Done Done done_cause refl (λ is. inr (c.tell_core.ensures.stream is)) c.tell_core.ensures.status
+
+pub returns-clause-cause : goal.returns-clause-cause
+returns-clause-cause g c = blameless c.tell-in-Err-told_runs.result c.no_memory.result.status Memory memory_cause c.no_memory.ensures.status (λ is. inr (c.tell-in-Err-told_runs.ensures.stream is)) c.tell-in-Err-told_runs.ensures.status

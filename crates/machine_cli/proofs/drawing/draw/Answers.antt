@@ -9,10 +9,11 @@ use Rattle.machine_cli.specs.Drawn.{cut_off, no_script, out_of_memory, unread}
 use Rattle.swsusp_cli.specs.Playing.{HasPlayed}
 use Rattle.command_kit.specs.Told.{IsTold}
 use Rattle.command_kit.specs.View.{DiskView, SinkView}
-use Rattle.swsusp_cli.proofs.Replays.{replies_of, risen_of, told_status}
+use Rattle.command_kit.specs.declared.status.Status.TheVariants.{Done, Memory}
+use Rattle.swsusp_cli.proofs.Causes.{blameless, done_cause, memory_cause, since_text, stop_cause, stream_cause, told_cause}
+use Rattle.swsusp_cli.proofs.Replays.{replies_of, risen_of}
 use Rattle.machine_cli.proofs.Pictures.{drawn_whole, not_drawn}
 use Rattle.swsusp_cli.proofs.Inputs.{without_script}
-use Rattle.world_runs.proofs.Counted.{risen_earlier}
 use Rattle.machine_cli.proofs.drawing.draw.Goals as goal
 
 pub returns-in-Err-clause-outcome : goal.returns-in-Err-clause-outcome
@@ -77,13 +78,17 @@ returns-clause-outcome g c =
       note = c.cut_off.ensures.note;
     })
 
-pub returns-in-Ok-draw_run-clause-stream : goal.returns-in-Ok-draw_run-clause-stream
-returns-in-Ok-draw_run-clause-stream g c = λ stream. inr (elim (c.tell-in-Ok-draw_run.ensures.stream stream) [ inl out ↦ inl (risen_earlier _ _ _ c.draw_run.ensures.stream_faults out) | inr note ↦ inr note ])
+pub returns-in-Err-clause-cause : goal.returns-in-Err-clause-cause
+returns-in-Err-clause-cause g c = stop_cause c.tell.result c.tell.ensures.cause (λ e. c.in-Err.ensures.stream (ap Err e))
 
-pub returns-clause-stream : goal.returns-clause-stream
-returns-clause-stream g c = λ stream. inr (inl c.in-Err-draw_run.ensures.stream)
+pub returns-in-Err-create-clause-cause : goal.returns-in-Err-create-clause-cause
+returns-in-Err-create-clause-cause g c = blameless c.tell-in-Err-create.result c.no_memory.result.status Memory memory_cause c.no_memory.ensures.status (λ is. inr (c.tell-in-Err-create.ensures.stream is)) c.tell-in-Err-create.ensures.status
 
-pub returns-in-Err-set_up-clause-device : goal.returns-in-Err-set_up-clause-device
-returns-in-Err-set_up-clause-device g c = λ device.
-    risen_of c.in-Ok.script _ _ c.in-Err-set_up.why c.in-Err-set_up.ensures.outcome
-    (c.answer.ensures.device (told_status c.tell-in-Err-set_up.result c.answer.result.status c.tell-in-Err-set_up.ensures.status device))
+pub returns-in-Err-set_up-clause-cause : goal.returns-in-Err-set_up-clause-cause
+returns-in-Err-set_up-clause-cause g c = told_cause c.tell-in-Err-set_up.result c.answer.result.status (λ is. inr (c.tell-in-Err-set_up.ensures.stream is)) c.tell-in-Err-set_up.ensures.status c.answer.ensures.cause (risen_of c.in-Ok.script _ _ c.in-Err-set_up.why c.in-Err-set_up.ensures.outcome)
+
+pub returns-in-Ok-draw_run-clause-cause : goal.returns-in-Ok-draw_run-clause-cause
+returns-in-Ok-draw_run-clause-cause g c = blameless c.tell-in-Ok-draw_run.result Done Done done_cause refl (λ is. since_text _ _ _ c.draw_run.ensures.stream_faults (c.tell-in-Ok-draw_run.ensures.stream is)) c.tell-in-Ok-draw_run.ensures.status
+
+pub returns-clause-cause : goal.returns-clause-cause
+returns-clause-cause g c = stream_cause c.cut_off.result c.cut_off.ensures.status (inr (inl c.in-Err-draw_run.ensures.stream))

@@ -1,9 +1,12 @@
-use Rattle.std.proofs.Common.{◌≡◌, refl, subst, Err, ap}
+use Rattle.std.proofs.Common.{◌≡◌, inr, refl, subst, Err, ap}
 use Rattle.dump_file.specs.Dump.{DumpValue}
 use Rattle.command_kit.specs.Told.{RunResult}
 use Rattle.swsusp_cli.specs.Loads.{written_told}
 use Rattle.command_kit.specs.Told.{IsTold}
 use Rattle.command_kit.specs.View.{SinkView}
+use Rattle.command_kit.specs.declared.status.Status.TheVariants.{Done}
+use Rattle.command_kit.specs.declared.status.Status.TheVariants as variant
+use Rattle.swsusp_cli.proofs.Causes.{blameless, done_cause, memory_cause, stop_cause}
 use Rattle.swsusp_cli.proofs.Inputs.{without_dump}
 use Rattle.fresh_dump.specs.KeptSlots.{kept_slot}
 use Rattle.plain_machine.specs.Machine.{Hardware, Memory}
@@ -30,3 +33,12 @@ returns-clause-outcome g c disk =
     let out : SinkView = record { taken = g.O.Sink.taken c.args.out.now; flushed = g.O.Sink.flushed c.args.out.now; faults = g.O.Sink.faults c.args.out.now } in
     let note : SinkView = record { taken = g.N.Sink.taken c.args.note.now; flushed = g.N.Sink.flushed c.args.note.now; faults = g.N.Sink.faults c.args.note.now } in
     out_of_memory (record { told = subst (λ (t : RunResult). IsTold t tell.result out (record { taken = g.O.Sink.taken tell.new.out; flushed = g.O.Sink.flushed tell.new.out; faults = g.O.Sink.faults tell.new.out }) note (record { taken = g.N.Sink.taken tell.new.note; flushed = g.N.Sink.flushed tell.new.note; faults = g.N.Sink.faults tell.new.note })) c.no_memory.ensures.told tell.ensures.told; untouched = refl {a = disk} })
+
+pub returns-in-Err-clause-cause : goal.returns-in-Err-clause-cause
+returns-in-Err-clause-cause g c = stop_cause c.tell.result c.tell.ensures.cause (λ e. c.in-Err.ensures.cause (ap Err e))
+
+pub returns-in-Ok-make_fresh-clause-cause : goal.returns-in-Ok-make_fresh-clause-cause
+returns-in-Ok-make_fresh-clause-cause g c = blameless c.tell_dump.result Done Done done_cause refl (λ is. inr (c.tell_dump.ensures.stream is)) c.tell_dump.ensures.status
+
+pub returns-clause-cause : goal.returns-clause-cause
+returns-clause-cause g c = blameless c.tell-in-Err-make_fresh.result c.no_memory.result.status variant.Memory memory_cause c.no_memory.ensures.status (λ is. inr (c.tell-in-Err-make_fresh.ensures.stream is)) c.tell-in-Err-make_fresh.ensures.status

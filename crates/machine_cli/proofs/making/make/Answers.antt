@@ -1,4 +1,4 @@
-use Rattle.std.proofs.Common.{◌≡◌, ◌∙◌, List, Some, None, refl, sym, ap, subst, Err}
+use Rattle.std.proofs.Common.{◌≡◌, inr, ◌∙◌, List, Some, None, refl, sym, ap, subst, Err}
 use Rattle.definitions.specs.Disk as disk
 use Rattle.plain_machine.specs.Machine.{Hardware, Memory}
 use Rattle.plain_machine.specs.Shows.{seen_frames}
@@ -10,8 +10,11 @@ use Rattle.swsusp_cli.specs.Loads.{written_told}
 use Rattle.swsusp_cli.specs.Playing.{HasPlayed}
 use Rattle.command_kit.specs.Told.{IsTold}
 use Rattle.command_kit.specs.View.{DiskView, SinkView}
+use Rattle.command_kit.specs.declared.status.Status.TheVariants.{Done, Refused}
+use Rattle.command_kit.specs.declared.status.Status.TheVariants as variant
+use Rattle.swsusp_cli.proofs.Causes.{blameless, done_cause, memory_cause, refused_cause, stop_cause, told_cause}
 use Rattle.swsusp_cli.proofs.Inputs.{without_script}
-use Rattle.swsusp_cli.proofs.Replays.{replies_of, risen_of, told_status}
+use Rattle.swsusp_cli.proofs.Replays.{replies_of, risen_of}
 use Rattle.machine_cli.specs.Made.{RunsNot, RunsWith, idle, no_script, out_of_memory, unread, written}
 use Rattle.machine_cli.proofs.Ending.{has_played, not_made, runs_not, runs_with}
 use Rattle.machine_cli.proofs.making.make.Goals as goal
@@ -74,7 +77,17 @@ returns-clause-outcome g c =
     idle script (played RunsNot (λ content end stands. runs_not c.play_through.new.world content end (c.in-None.ensures.idle refl) stands))
     (subst (λ (t : RunResult). IsTold t tell.result out (record { taken = g.O.Sink.taken tell.new.out; flushed = g.O.Sink.flushed tell.new.out; faults = g.O.Sink.faults tell.new.out }) note (record { taken = g.N.Sink.taken tell.new.note; flushed = g.N.Sink.flushed tell.new.note; faults = g.N.Sink.faults tell.new.note })) c.idle.ensures.told tell.ensures.told)
 
-pub returns-in-Err-set_up-clause-device : goal.returns-in-Err-set_up-clause-device
-returns-in-Err-set_up-clause-device g c = λ device.
-    risen_of c.in-Ok.script _ _ c.in-Err-set_up.why c.in-Err-set_up.ensures.outcome
-    (c.answer.ensures.device (told_status c.tell-in-Err-set_up.result c.answer.result.status c.tell-in-Err-set_up.ensures.status device))
+pub returns-in-Err-clause-cause : goal.returns-in-Err-clause-cause
+returns-in-Err-clause-cause g c = stop_cause c.tell.result c.tell.ensures.cause (λ e. c.in-Err.ensures.stream (ap Err e))
+
+pub returns-in-Err-create-clause-cause : goal.returns-in-Err-create-clause-cause
+returns-in-Err-create-clause-cause g c = blameless c.tell-in-Err-create.result c.no_memory.result.status variant.Memory memory_cause c.no_memory.ensures.status (λ is. inr (c.tell-in-Err-create.ensures.stream is)) c.tell-in-Err-create.ensures.status
+
+pub returns-in-Err-set_up-clause-cause : goal.returns-in-Err-set_up-clause-cause
+returns-in-Err-set_up-clause-cause g c = told_cause c.tell-in-Err-set_up.result c.answer.result.status (λ is. inr (c.tell-in-Err-set_up.ensures.stream is)) c.tell-in-Err-set_up.ensures.status c.answer.ensures.cause (risen_of c.in-Ok.script _ _ c.in-Err-set_up.why c.in-Err-set_up.ensures.outcome)
+
+pub returns-in-Some-clause-cause : goal.returns-in-Some-clause-cause
+returns-in-Some-clause-cause g c = blameless c.tell_dump.result Done Done done_cause refl (λ is. inr (c.tell_dump.ensures.stream is)) c.tell_dump.ensures.status
+
+pub returns-clause-cause : goal.returns-clause-cause
+returns-clause-cause g c = blameless c.tell-in-None.result c.idle.result.status Refused refused_cause c.idle.ensures.status (λ is. inr (c.tell-in-None.ensures.stream is)) c.tell-in-None.ensures.status

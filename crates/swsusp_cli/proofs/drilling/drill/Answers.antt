@@ -12,9 +12,10 @@ use Rattle.swsusp_cli.specs.Playing.{HasPlayed}
 use Rattle.swsusp_cli.specs.SettingUp.{IsNotSetUp, IsSetUp}
 use Rattle.command_kit.specs.Told.{IsTold}
 use Rattle.command_kit.specs.View.{DiskView, SinkView}
-use Rattle.command_kit.specs.declared.status.Status.TheVariants.{Done}
+use Rattle.command_kit.specs.declared.status.Status.TheVariants.{Done, Memory}
+use Rattle.swsusp_cli.proofs.Causes.{blameless, done_cause, memory_cause, told_cause}
 use Rattle.swsusp_cli.proofs.Drilled.{drill_not_set_up, none_failed}
-use Rattle.swsusp_cli.proofs.Replays.{replies_of, risen_of, told_status}
+use Rattle.swsusp_cli.proofs.Replays.{replies_of, risen_of}
 use Rattle.swsusp_cli.proofs.drilling.drill.Goals as goal
 
 pub returns-in-Err-set_up-clause-outcome : goal.returns-in-Err-set_up-clause-outcome
@@ -76,7 +77,14 @@ returns-in-Err-create-clause-outcome g c = λ left read_faults.
       untouched = refl {a = before};
     })
 
-pub returns-in-Err-set_up-clause-device : goal.returns-in-Err-set_up-clause-device
-returns-in-Err-set_up-clause-device g c = λ device.
-    risen_of c.in-Ok.script _ _ c.in-Err-set_up.why c.in-Err-set_up.ensures.outcome
-    (c.answer.ensures.device (told_status c.tell-in-Err-set_up.result c.answer.result.status c.tell-in-Err-set_up.ensures.status device))
+pub returns-in-Err-clause-cause : goal.returns-in-Err-clause-cause
+returns-in-Err-clause-cause g c = blameless c.tell.result c.no_memory.result.status Memory memory_cause c.no_memory.ensures.status c.tell.ensures.stream c.tell.ensures.status
+
+pub returns-in-Err-create-clause-cause : goal.returns-in-Err-create-clause-cause
+returns-in-Err-create-clause-cause g c = blameless c.tell-in-Err-create.result c.no_memory-in-Err-create.result.status Memory memory_cause c.no_memory-in-Err-create.ensures.status c.tell-in-Err-create.ensures.stream c.tell-in-Err-create.ensures.status
+
+pub returns-in-Err-set_up-clause-cause : goal.returns-in-Err-set_up-clause-cause
+returns-in-Err-set_up-clause-cause g c = told_cause c.tell-in-Err-set_up.result c.answer.result.status c.tell-in-Err-set_up.ensures.stream c.tell-in-Err-set_up.ensures.status c.answer.ensures.cause (risen_of c.in-Ok.script _ _ c.in-Err-set_up.why c.in-Err-set_up.ensures.outcome)
+
+pub returns-clause-cause : goal.returns-clause-cause
+returns-clause-cause g c = blameless c.tell-2.result c.summed.result.status Done done_cause c.summed.ensures.status c.tell-2.ensures.stream c.tell-2.ensures.status

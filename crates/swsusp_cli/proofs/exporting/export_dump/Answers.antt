@@ -1,10 +1,11 @@
-use Rattle.std.proofs.Common.{List, ℕ, [], refl, subst, Err, ap}
+use Rattle.std.proofs.Common.{inr, List, ℕ, [], refl, subst, Err, ap}
 use Rattle.dump_file.specs.Dump.{DumpValue}
 use Rattle.command_kit.specs.Told.{RunResult}
 use Rattle.swsusp_cli.specs.Exports.{no_dump, out_of_memory, unread, in_use, exported}
 use Rattle.command_kit.specs.Told.{IsTold}
 use Rattle.command_kit.specs.View.{SinkView}
-use Rattle.command_kit.specs.declared.status.Status.TheVariants.{Done}
+use Rattle.command_kit.specs.declared.status.Status.TheVariants.{Done, Refused, Memory}
+use Rattle.swsusp_cli.proofs.Causes.{blameless, done_cause, memory_cause, refused_cause, stop_cause}
 use Rattle.swsusp_cli.proofs.Inputs.{without_dump}
 use Rattle.swsusp_cli.proofs.exporting.export_dump.Goals as goal
 
@@ -50,3 +51,18 @@ returns-clause-outcome g c disk =
       told = subst (λ (t : RunResult). IsTold t tell.result out (record { taken = g.O.Sink.taken tell.new.out; flushed = g.O.Sink.flushed tell.new.out; faults = g.O.Sink.faults tell.new.out }) note (record { taken = g.N.Sink.taken tell.new.note; flushed = g.N.Sink.flushed tell.new.note; faults = g.N.Sink.faults tell.new.note })) c.in_use.ensures.told tell.ensures.told;
       untouched = refl {a = disk};
     })
+
+pub returns-in-Err-clause-cause : goal.returns-in-Err-clause-cause
+returns-in-Err-clause-cause g c = stop_cause c.tell.result c.tell.ensures.cause (λ e. c.in-Err.ensures.cause (ap Err e))
+
+pub returns-in-Err-saveable_set-clause-cause : goal.returns-in-Err-saveable_set-clause-cause
+returns-in-Err-saveable_set-clause-cause g c = blameless c.tell-in-Err-saveable_set.result c.no_memory.result.status Memory memory_cause c.no_memory.ensures.status (λ is. inr (c.tell-in-Err-saveable_set.ensures.stream is)) c.tell-in-Err-saveable_set.ensures.status
+
+pub returns-in-Err-empty_piece-clause-cause : goal.returns-in-Err-empty_piece-clause-cause
+returns-in-Err-empty_piece-clause-cause g c = blameless c.tell-in-Err-empty_piece.result c.no_memory-in-Err-empty_piece.result.status Memory memory_cause c.no_memory-in-Err-empty_piece.ensures.status (λ is. inr (c.tell-in-Err-empty_piece.ensures.stream is)) c.tell-in-Err-empty_piece.ensures.status
+
+pub returns-in-Ok-begin-clause-cause : goal.returns-in-Ok-begin-clause-cause
+returns-in-Ok-begin-clause-cause g c = blameless c.tell_stream.result Done Done done_cause refl (λ is. inr (c.tell_stream.ensures.stream is)) c.tell_stream.ensures.status
+
+pub returns-clause-cause : goal.returns-clause-cause
+returns-clause-cause g c = blameless c.tell-in-Err-begin.result c.in_use.result.status Refused refused_cause c.in_use.ensures.status (λ is. inr (c.tell-in-Err-begin.ensures.stream is)) c.tell-in-Err-begin.ensures.status

@@ -1,12 +1,14 @@
-use Rattle.std.proofs.Common.{refl, subst, arith, Err, ap}
+use Rattle.std.proofs.Common.{inr, refl, subst, arith, Err, ap}
 use Rattle.dump_file.specs.Dump.{DumpValue}
 use Rattle.command_kit.specs.Told.{RunResult}
 use Rattle.swsusp_cli.specs.Dumps.{no_dump, out_of_memory, unread, answered}
 use Rattle.command_kit.specs.Told.{IsTold}
 use Rattle.command_kit.specs.View.{DiskView, SinkView}
+use Rattle.command_kit.specs.declared.status.Status.TheVariants.{Memory}
 use Rattle.plain_machine.specs.Machine.{IsHardware}
 use Rattle.world_core.specs.StandsFor.{shown}
 use Rattle.command_core.specs.Runs.{IsHibernation}
+use Rattle.swsusp_cli.proofs.Causes.{blameless, memory_cause, stop_cause, told_cause}
 use Rattle.swsusp_cli.proofs.Dumped.{ran_as}
 use Rattle.swsusp_cli.proofs.Inputs.{without_dump}
 use Rattle.swsusp_cli.proofs.hibernating.hibernate_dump.Goals as goal
@@ -41,3 +43,12 @@ returns-clause-outcome g c =
       ran = ran_as g.D.Disk (IsHibernation c.args.wanted.format c.args.wanted.size ended.result) _ dump.hw _ dump.memory _ c.args.disk.now ended.new.disk made.is made.frames ended.ensures.ran;
       orders = ended.ensures.orders;
     })
+
+pub returns-in-Err-clause-cause : goal.returns-in-Err-clause-cause
+returns-in-Err-clause-cause g c = stop_cause c.tell.result c.tell.ensures.cause (λ e. c.in-Err.ensures.cause (ap Err e))
+
+pub returns-in-Err-machine_of-clause-cause : goal.returns-in-Err-machine_of-clause-cause
+returns-in-Err-machine_of-clause-cause g c = blameless c.tell-in-Err-machine_of.result c.no_memory.result.status Memory memory_cause c.no_memory.ensures.status (λ is. inr (c.tell-in-Err-machine_of.ensures.stream is)) c.tell-in-Err-machine_of.ensures.status
+
+pub returns-clause-cause : goal.returns-clause-cause
+returns-clause-cause g c = told_cause c.tell-2.result c.hibernation_answer.result.status (λ is. inr (c.tell-2.ensures.stream is)) c.tell-2.ensures.status c.hibernation_answer.ensures.cause c.hibernate-ended.ensures.cause

@@ -4,10 +4,13 @@ use Rattle.command_kit.specs.Told.{RunResult}
 use Rattle.swsusp_cli.specs.Loads.{no_dump, out_of_memory, unread, answered}
 use Rattle.command_kit.specs.Told.{IsTold}
 use Rattle.command_kit.specs.View.{DiskView, SinkView}
+use Rattle.command_kit.specs.declared.status.Status.TheVariants as status
 use Rattle.plain_machine.specs.Machine.{IsHardware, Memory}
 use Rattle.world_core.specs.StandsFor.{shown}
 use Rattle.command_core.specs.Runs.{IsResumption}
 use Rattle.swsusp_cli.specs.Loads.{resume_told}
+use Rattle.command_kit.proofs.Causes.{cause_since}
+use Rattle.swsusp_cli.proofs.Causes.{blameless, memory_cause, stop_cause}
 use Rattle.swsusp_cli.proofs.Dumped.{ran_as}
 use Rattle.swsusp_cli.proofs.Inputs.{without_dump}
 use Rattle.swsusp_cli.proofs.resuming.resume_dump.Goals as goal
@@ -44,5 +47,11 @@ returns-clause-outcome g c =
       orders = ended.ensures.orders;
     })
 
-pub returns-clause-stream : goal.returns-clause-stream
-returns-clause-stream g c = λ is. inr (c.tell_end.ensures.stream is)
+pub returns-in-Err-clause-cause : goal.returns-in-Err-clause-cause
+returns-in-Err-clause-cause g c = stop_cause c.tell.result c.tell.ensures.cause (λ e. c.in-Err.ensures.cause (ap Err e))
+
+pub returns-in-Err-machine_of-clause-cause : goal.returns-in-Err-machine_of-clause-cause
+returns-in-Err-machine_of-clause-cause g c = blameless c.tell-in-Err-machine_of.result c.no_memory.result.status status.Memory memory_cause c.no_memory.ensures.status (λ is. inr (c.tell-in-Err-machine_of.ensures.stream is)) c.tell-in-Err-machine_of.ensures.status
+
+pub returns-clause-cause : goal.returns-clause-cause
+returns-clause-cause g c = cause_since c.tell_end.result (λ outputs. inr outputs) c.resume-ended.ensures.cause c.tell_end.ensures.cause
