@@ -12,7 +12,7 @@ import sys
 
 TOP = pathlib.Path(__file__).resolve().parent.parent
 PAGE = TOP / "docs" / "PROOFS.md"
-PATH = re.compile(r"[\w/]+(?:\.antt|\.rt)|crates/[\w/]+|(?:src|specs|proofs|definitions/specs|run_laws/specs)(?:/[\w/]+)?")
+PATH = re.compile(r"[\w/]+(?:\.antt|\.rt)|crates/[\w/]+|(?:src|specs|proofs|definitions/specs|theorem_laws/specs)(?:/[\w/]+)?")
 NAME = re.compile(r"`([\w\[\]-]+)`")
 EDIT = re.compile(r"(\w+)/must-fail/([\w-]+)\.edit")
 

@@ -7,8 +7,8 @@ use Rattle.image_walk.specs.Names.{Name, answer_of, block_of, fault_of, is_named
 use Rattle.image_walk.specs.declared.limits.Limits.{Limits}
 use Rattle.image_walk.specs.declared.visit.BlockFault.{BlockFault}
 use Rattle.image_walk.proofs.FewMaps.{fault_none}
-use Rattle.sig_header.specs.declared.area.AreaKind.{AreaKind}
-use Rattle.sig_header.specs.declared.area.AreaKind.TheVariants as kind
+use Rattle.image_format.specs.declared.signature.area.AreaKind.{AreaKind}
+use Rattle.image_format.specs.declared.signature.area.AreaKind.TheVariants as kind
 use Rattle.image_check.specs.Header.{limits_of, any_block}
 use Rattle.boot_check.specs.Named.{asked_in, was_asked}
 

@@ -4,8 +4,8 @@ use Rattle.std.specs.Prelude.{Result, Ok}
 use Rattle.std.specs.List.{list_any}
 use Rattle.definitions.specs.Disk.{Content}
 use Rattle.definitions.specs.SwapHeader.{taken_back}
-use Rattle.sig_header.specs.AreaKind.{area_kind}
-use Rattle.sig_header.specs.declared.area.Mark.{Mark}
+use Rattle.image_format.specs.AreaKind.{area_kind}
+use Rattle.image_format.specs.declared.signature.area.Mark.{Mark}
 use Rattle.image_walk.specs.Names.{Name, fault_of, is_unread, IsAnswer, IsReadFrom}
 use Rattle.image_walk.specs.Walking.{block_asked}
 use Rattle.image_walk.specs.declared.visit.BlockFault.{BlockFault}

@@ -6,9 +6,9 @@ use crate::stage::{FewWords, Stage, Step, pending_at, stage_after};
 use image_check::{
     Finding, Outcome, Report, check_header, format_of, is_compressed, limits_of, mark_in,
 };
+use image_format::AreaKind;
 use image_walk::{BlockFault, words_for};
 use page_core::Page;
-use sig_header::AreaKind;
 
 /// A check of the image of an area: a value of fixed size, which its caller asks for the next block and tells how the
 /// read of it went. Its fields are public so that a caller can keep it in a form of its own; the promises of the

@@ -1,7 +1,7 @@
 use crate::marks::is_marked;
 use crate::step::{Left, Step};
+use image_format::take_back;
 use page_core::Page;
-use sig_header::take_back;
 
 /// Gives up the image of an area: a value that its caller asks for the next call and tells how that call went.
 #[derive(Clone, Copy, Debug, PartialEq, Eq)]

@@ -2,7 +2,7 @@
 use Rattle.std.proofs.Common.{◌≡◌, ℕ, zero, suc, drop, ◌+◌, ◌/◌, inl, inr, List, [], ◌∷◌, refl, sym, ap, ◌∙◌, subst, None, Result, Ok, Err, arith}
 use Rattle.definitions.specs.Disk.{DiskImage}
 use Rattle.definitions.specs.SwapHeader.{taken_back}
-use Rattle.sig_header.specs.AreaKind.{mark_of}
+use Rattle.image_format.specs.AreaKind.{mark_of}
 use Rattle.boot_resume.specs.OnDisk.{header_in, mark_in, map_at, page_at, header_cause, page_cause, content_cause}
 use Rattle.boot_resume.specs.Calls.{Turn, asks, asks_with, unless, entry_then, places, handed_from, listed_from, marked_then}
 use Rattle.boot_resume.specs.Standing.{Goes, Leads, Listing, Numbered, behind}

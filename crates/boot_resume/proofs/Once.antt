@@ -6,7 +6,7 @@ use Rattle.definitions.specs.Disk.{DiskImage}
 use Rattle.definitions.specs.SwapHeader.{image_signature, orig_sig_of, sig_of, taken_back}
 use Rattle.definitions.proofs.Marks.{length-bytes_at}
 use Rattle.definitions.proofs.PageBytes.{bytes_at-with_bytes}
-use Rattle.sig_header.specs.AreaKind.{mark_of}
+use Rattle.image_format.specs.AreaKind.{mark_of}
 use Rattle.boot_resume.specs.OnDisk.{header_cause, header_in, mode_cause}
 use Rattle.boot_resume.specs.Calls.{asks, asks_with, calls, settled_then, unmarked_calls}
 use Rattle.boot_resume.specs.declared.call.Call.TheVariants.{Sync, Read, Write}

@@ -1,7 +1,7 @@
 -- What is wanted next for a page of the stream.
 use Rattle.std.proofs.Common.{◌≡◌, ◌≢◌, ℕ, zero, suc, ◌/◌, ◌%◌, ◌-◌, ◌<◌, List, ◌∷◌, [], eqb, refl, sym, ap, ◌∙◌, subst, None, Some, Ok, arith}
 use Rattle.std.proofs.lemmas.Bool.{cond-false, ne_eqb}
-use Rattle.sig_header.specs.declared.area.Mark.{Mark}
+use Rattle.image_format.specs.declared.signature.area.Mark.{Mark}
 use Rattle.definitions.specs.Disk.{DiskImage}
 use Rattle.definitions.specs.SwapMap.{map_entry, map_link}
 use Rattle.boot_resume.specs.Memory.{Names, block_fault}

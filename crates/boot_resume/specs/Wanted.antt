@@ -2,7 +2,7 @@
 use Rattle.std.specs.Prelude.{◌≡◌, ℕ, ◌/◌, ◌%◌, ◌-◌, ◌<◌, ◌==◌, ◌⊎◌, List, [], ◌∷◌, Result, Ok, Err, if◌then◌else◌}
 use Rattle.definitions.specs.Disk.{DiskImage, block}
 use Rattle.definitions.specs.SwapMap.{map_entry, map_link}
-use Rattle.sig_header.specs.declared.area.Mark.{Mark}
+use Rattle.image_format.specs.declared.signature.area.Mark.{Mark}
 use Rattle.boot_resume.specs.OnDisk.{map_at, page_at}
 use Rattle.boot_resume.specs.Calls.{Turn, asks, entry_then}
 use Rattle.boot_resume.specs.declared.call.Call.{Call}

@@ -1,14 +1,14 @@
 //! The header block of a marked area.
 ghost use Rattle.std.specs.Prelude.{◌≡◌, IfOk, None, Some};
-ghost use Rattle.sig_header.specs.AreaKind.{mark_of};
+ghost use Rattle.image_format.specs.AreaKind.{mark_of};
 ghost use Rattle.boot_resume.specs.Marks.{mark_by, mark_within};
 ghost use Rattle.boot_resume.specs.Memory.{Tests};
 ghost use Rattle.boot_resume.specs.OnDisk.{format_by, hardware_cause, header_cause, mode_cause};
 
 use crate::cause::Cause;
 use crate::machine::Machine;
+use image_format::{AreaKind, Mark, SF_HW_SIG, SF_NOCOMPRESS_MODE, SF_SKIPS_ZEROS};
 use page_core::{Format, Page};
-use sig_header::{AreaKind, Mark, SF_HW_SIG, SF_NOCOMPRESS_MODE, SF_SKIPS_ZEROS};
 
 /// Returns the mark of a header block, if a resume can read its image.
 pub(crate) fn read_mark(page: &Page) -> Result<Mark, Cause>
@@ -32,7 +32,7 @@ fn check_mode(mark: Mark) -> Result<Mark, Cause>
     Ok(mark)
 }
 
-#[tactic(auto, unfolding(sig_header::specs::AreaKind::area_kind))]
+#[tactic(auto, unfolding(image_format::specs::AreaKind::area_kind))]
 fn mark_within(page: &Page) -> Option<Mark>
     ensures { result ≡ mark_by page.now }
 {

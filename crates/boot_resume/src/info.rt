@@ -7,7 +7,7 @@ ghost use Rattle.boot_resume.specs.OnDisk.{counts_cause, field_cause, identity_c
 
 use crate::cause::Cause;
 use crate::machine::{Identity, Machine};
-use image_header::{Ident, Info, check, decode};
+use image_format::info::{Ident, Info, check, decode};
 use page_core::{Format, Page};
 
 /// How many bytes an architecture's header has (`struct new_utsname`).

@@ -11,8 +11,8 @@ use crate::call::Call;
 use crate::cause::Cause;
 use crate::machine::Machine;
 use crate::stage::{Move, Stage};
+use image_format::Mark;
 use page_core::Page;
-use sig_header::Mark;
 
 /// How many entries a map has (MAP_PAGE_ENTRIES). The link is the word after them.
 const ENTRIES: u64 = 511;

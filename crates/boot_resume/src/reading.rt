@@ -12,8 +12,8 @@ use crate::numbers::{
 };
 use crate::pages::{following, map_behind, map_named, map_of, page_named, want};
 use crate::stage::{Move, Stage};
+use image_format::{Mark, take_back};
 use page_core::Page;
-use sig_header::{Mark, take_back};
 
 /// How far an image was read, not counting the pending call.
 #[derive(Drop)]

@@ -2,3 +2,4 @@ pub mod Calls
 pub mod Flushed
 pub mod Memory
 pub mod Flushes
+pub mod Places

@@ -1,4 +1,5 @@
-//! Where the program's bytes come from and go to: sources, sinks, and the lines that are printed.
+//! Where the program's bytes come from and go to: sources, sinks, the lines that are printed, and the standard streams
+//! themselves.
 #![tactic(auto)]
 
 mod calls;
@@ -8,6 +9,7 @@ mod memory;
 mod put;
 mod sink;
 mod source;
+mod standard;
 mod streams;
 
 pub use filling::fill;
@@ -16,4 +18,5 @@ pub use memory::{MemSink, MemSource};
 pub use put::put_all;
 pub use sink::Sink;
 pub use source::Source;
+pub use standard::{Held, hold, is_output, sync_output};
 pub use streams::{StdSink, StdSource};

@@ -9,9 +9,9 @@ use Rattle.std.proofs.lemmas.List.FromFn.{filter_of_map_range_with_len_more}
 use Rattle.definitions.specs.Zones.{numbers}
 use Rattle.definitions.proofs.ZoneNumbers.{Contains-range}
 use Rattle.plain_machine.specs.Image.{is_zeros}
-use Rattle.core_segments.specs.Pages.{page_of, pages_in, pages_of}
-use Rattle.core_segments.specs.Segments.{first_frame, frame_end, nothing, segment_at}
-use Rattle.core_segments.specs.declared.segment.Segment.{Segment}
+use Rattle.core_machine.specs.Pages.{page_of, pages_in, pages_of}
+use Rattle.core_machine.specs.Segments.{first_frame, frame_end, nothing, segment_at}
+use Rattle.core_machine.specs.declared.segments.segment.Segment.{Segment}
 use Rattle.image_machine.specs.Filled.{IsFilled}
 use Rattle.image_machine.specs.Machines.{numbers_of}
 use Rattle.image_machine.specs.declared.filled.FilledPlan.{FilledPlan}

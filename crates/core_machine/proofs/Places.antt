@@ -5,18 +5,18 @@ use Rattle.std.proofs.lemmas.Bool.{cases_lt, eq-eqb, ne_eqb, cond-true, cond-fal
 use Rattle.std.proofs.lemmas.List.Elements.{All-cons, All-nil}
 use Rattle.std.proofs.lemmas.Option.{none-some}
 use Rattle.plain_machine.specs.Chain.{or_else}
-use Rattle.core_segments.specs.Faults.{unless, wanted}
-use Rattle.core_segments.specs.Pages.{from_address, page_end, page_fault, page_place, places_end, reached, to_address}
-use Rattle.core_segments.specs.Reading.{Stops}
-use Rattle.core_segments.specs.Segments.{address_end, bytes_end, first_frame, frame_end, nothing, place_after, place_fault, segment_at, segments_fault, size_fault}
-use Rattle.core_segments.specs.declared.fault.Fault.{Fault}
-use Rattle.core_segments.specs.declared.fault.Fault.TheVariants as fault
-use Rattle.core_segments.specs.declared.fault.Stop.{Stop as CoreStop}
-use Rattle.core_segments.specs.declared.fault.Stop.TheVariants as core
-use Rattle.core_segments.specs.declared.segment.Segment.{Segment}
-use Rattle.core_segments.proofs.Faults.{none-first, none-second, stops-later, unless-none, wanted-later}
-use Rattle.core_segments.proofs.Opened.{first_right, place_near}
-use Rattle.core_segments.proofs.Paging.{fault_none, fault_some, reached_none, reached_some}
+use Rattle.core_machine.specs.Faults.{unless, wanted}
+use Rattle.core_machine.specs.Pages.{from_address, page_end, page_fault, page_place, places_end, reached, to_address}
+use Rattle.core_machine.specs.Reading.{Stops}
+use Rattle.core_machine.specs.Segments.{address_end, bytes_end, first_frame, frame_end, nothing, place_after, place_fault, segment_at, segments_fault, size_fault}
+use Rattle.core_machine.specs.declared.segments.fault.Fault.{Fault}
+use Rattle.core_machine.specs.declared.segments.fault.Fault.TheVariants as fault
+use Rattle.core_machine.specs.declared.segments.fault.Stop.{Stop as CoreStop}
+use Rattle.core_machine.specs.declared.segments.fault.Stop.TheVariants as core
+use Rattle.core_machine.specs.declared.segments.segment.Segment.{Segment}
+use Rattle.core_machine.proofs.Faults.{none-first, none-second, stops-later, unless-none, wanted-later}
+use Rattle.core_machine.proofs.Opened.{first_right, place_near}
+use Rattle.core_machine.proofs.Paging.{fault_none, fault_some, reached_none, reached_some}
 use Rattle.core_machine.specs.Made.{end_after}
 use Rattle.core_machine.specs.Stops.{StopsIn, core_stop}
 use Rattle.core_machine.specs.declared.stop.Stop.{Stop}

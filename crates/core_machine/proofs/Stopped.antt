@@ -1,15 +1,15 @@
 -- What is made of a core file, and why nothing is.
 use Rattle.std.proofs.Common.{◌≡◌, ◌≤◌, ℕ, List, [], ◌∷◌, length, Option, Some, None, refl, sym, ap, subst, ◌∙◌}
 use Rattle.definitions.specs.declared.info.Ident.{Ident}
-use Rattle.core_segments.specs.Faults.{wanted}
-use Rattle.core_segments.specs.Heads.{segments_in}
-use Rattle.core_segments.specs.Notes.{head_end, head_fault, ident_in}
-use Rattle.core_segments.specs.Pages.{core_fault, places_end}
-use Rattle.core_segments.specs.Reading.{Stops}
-use Rattle.core_segments.specs.declared.fault.Stop.{Stop as CoreStop}
-use Rattle.core_segments.specs.declared.fault.Stop.TheVariants as core
-use Rattle.core_segments.specs.declared.segment.Segment.{Segment}
-use Rattle.core_segments.proofs.Faults.{or_else-none, or_else-some, wanted-there}
+use Rattle.core_machine.specs.Faults.{wanted}
+use Rattle.core_machine.specs.Heads.{segments_in}
+use Rattle.core_machine.specs.Notes.{head_end, head_fault, ident_in}
+use Rattle.core_machine.specs.Pages.{core_fault, places_end}
+use Rattle.core_machine.specs.Reading.{Stops}
+use Rattle.core_machine.specs.declared.segments.fault.Stop.{Stop as CoreStop}
+use Rattle.core_machine.specs.declared.segments.fault.Stop.TheVariants as core
+use Rattle.core_machine.specs.declared.segments.segment.Segment.{Segment}
+use Rattle.core_machine.proofs.Faults.{or_else-none, or_else-some, wanted-there}
 use Rattle.image_machine.specs.Layouts.{zones_of, zones_or_one}
 use Rattle.image_machine.specs.Limits.{PassesAtOnce, StopsAtOnce}
 use Rattle.image_machine.specs.Machines.{IsMachineFor, PassesWith}

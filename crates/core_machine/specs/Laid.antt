@@ -1,7 +1,7 @@
 -- The page frames of a core file that were added to a plan, with their pages.
 use Rattle.std.specs.Prelude.{◌≡◌, ◌<◌, ℕ, All, List, ◌++◌, None}
-use Rattle.core_segments.specs.Segments.{segments_fault}
-use Rattle.core_segments.specs.declared.segment.Segment.{Segment}
+use Rattle.core_machine.specs.Segments.{segments_fault}
+use Rattle.core_machine.specs.declared.segments.segment.Segment.{Segment}
 use Rattle.image_machine.specs.Filled.{IsFilled}
 use Rattle.image_machine.specs.Machines.{numbers_of}
 use Rattle.image_machine.specs.declared.filled.FilledPlan.{FilledPlan}

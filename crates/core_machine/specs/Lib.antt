@@ -1,3 +1,9 @@
 pub mod Laid
 pub mod Made
 pub mod Stops
+pub mod Faults
+pub mod Heads
+pub mod Notes
+pub mod Pages
+pub mod Reading
+pub mod Segments

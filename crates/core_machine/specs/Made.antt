@@ -3,19 +3,19 @@ use Rattle.std.specs.Prelude.{◌≡◌, ℕ, ◌-◌, ⊤, Bool, not, max, List
 use Rattle.std.specs.Prelude.{None}
 use Rattle.definitions.specs.declared.info.Ident.{Ident}
 use Rattle.plain_machine.specs.Image.{is_zeros}
-use Rattle.core_segments.specs.Notes.{ident_in}
-use Rattle.core_segments.specs.Heads.{segments_in}
-use Rattle.core_segments.specs.Notes.{head_fault}
-use Rattle.core_segments.specs.Pages.{core_fault, pages_of}
-use Rattle.core_segments.specs.Segments.{frame_end}
-use Rattle.core_segments.specs.declared.segment.Segment.{Segment}
+use Rattle.core_machine.specs.Notes.{ident_in}
+use Rattle.core_machine.specs.Heads.{segments_in}
+use Rattle.core_machine.specs.Notes.{head_fault}
+use Rattle.core_machine.specs.Pages.{core_fault, pages_of}
+use Rattle.core_machine.specs.Segments.{frame_end}
+use Rattle.core_machine.specs.declared.segments.segment.Segment.{Segment}
 use Rattle.image_machine.specs.Limits.{PassesAtOnce}
 use Rattle.image_machine.specs.Machines.{IsMachineFor, PassesWith}
 use Rattle.image_machine.specs.declared.heading.Heading.{Heading}
 use Rattle.image_machine.specs.declared.heading.Layout.{Layout}
 use Rattle.image_machine.specs.declared.limit.Limit.{Limit}
 use Rattle.machine.specs.declared.dump.Dump.{Dump}
-use Rattle.sig_header.specs.declared.area.Area.{Area}
+use Rattle.image_format.specs.declared.signature.area.Area.{Area}
 use Rattle.core_machine.specs.declared.stop.Stop.{Stop}
 use Rattle.core_machine.specs.declared.stop.Stop.TheVariants as stop
 

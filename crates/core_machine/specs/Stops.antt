@@ -1,8 +1,8 @@
 -- Why there is no dump, by what stopped its parts.
 use Rattle.std.specs.Prelude.{◌≡◌, ⊤, Option, Some}
-use Rattle.core_segments.specs.declared.fault.Fault.{Fault}
-use Rattle.core_segments.specs.declared.fault.Stop.{Stop as CoreStop}
-use Rattle.core_segments.specs.declared.fault.Stop.TheVariants as core
+use Rattle.core_machine.specs.declared.segments.fault.Fault.{Fault}
+use Rattle.core_machine.specs.declared.segments.fault.Stop.{Stop as CoreStop}
+use Rattle.core_machine.specs.declared.segments.fault.Stop.TheVariants as core
 use Rattle.image_machine.specs.declared.limit.Stop.{Stop as MachineStop}
 use Rattle.image_machine.specs.declared.limit.Stop.TheVariants as machine
 use Rattle.core_machine.specs.declared.stop.Stop.{Stop}

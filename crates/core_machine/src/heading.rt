@@ -1,11 +1,11 @@
 ghost use Rattle.std.specs.Prelude.{◌≡◌, ◌≤◌, ◌^◌, All};
 ghost use Rattle.core_machine.specs.Made.{IsPlain, frames_in, heading_of};
-ghost use Rattle.core_segments.specs.Segments.{address_end};
+ghost use Rattle.core_machine.specs.Segments.{address_end};
 
-use core_segments::Segment;
+use crate::segments::Segment;
 use definitions::Ident;
+use image_format::Area;
 use image_machine::{Heading, Layout};
-use sig_header::Area;
 
 /// The most bad pages that a header has.
 const MOST_BADPAGES: usize = 630;

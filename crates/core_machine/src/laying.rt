@@ -3,20 +3,20 @@ ghost use Rattle.std.specs.Prelude.{IfErr, IfOk, OnOk};
 ghost use Rattle.definitions.specs.Disk.{HasRisen};
 ghost use Rattle.definitions.specs.Zones.{numbers};
 ghost use Rattle.plain_machine.specs.Image.{is_zeros};
-ghost use Rattle.core_segments.specs.Faults.{wanted};
-ghost use Rattle.core_segments.specs.Pages.{pages_in, places_end};
-ghost use Rattle.core_segments.specs.Reading.{IsReadTo};
-ghost use Rattle.core_segments.specs.Segments.{first_frame, frame_end, place_after, place_fault, segments_fault};
-ghost use Rattle.core_segments.specs.Segments.{size_fault};
+ghost use Rattle.core_machine.specs.Faults.{wanted};
+ghost use Rattle.core_machine.specs.Pages.{pages_in, places_end};
+ghost use Rattle.core_machine.specs.Reading.{IsReadTo};
+ghost use Rattle.core_machine.specs.Segments.{first_frame, frame_end, place_after, place_fault, segments_fault};
+ghost use Rattle.core_machine.specs.Segments.{size_fault};
 ghost use Rattle.image_machine.specs.Filled.{IsFilled};
 ghost use Rattle.core_machine.specs.Laid.{IsLaid, IsLaidOver, IsSamePlan, LiesBelow};
 ghost use Rattle.core_machine.specs.Made.{frames_in, holds_bytes, saved_of};
 ghost use Rattle.core_machine.specs.Stops.{StopsIn};
 ghost use Rattle.core_machine.specs.declared.stop.Stop.TheVariants as stop;
 
+use crate::segments::{Segment, read_page};
 use crate::stop::Stop;
 use byte_streams::Source;
-use core_segments::{Segment, read_page};
 use image_machine::FilledPlan;
 use page_core::Page;
 

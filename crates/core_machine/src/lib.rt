@@ -1,9 +1,10 @@
-//! The machine of a core file: a dump of a machine with the memory that the file contains.
+//! The machine of a core file: its segments of memory, and a dump of a machine with that memory.
 #![tactic(auto)]
 
 mod heading;
 mod laying;
 mod making;
+pub mod segments;
 mod stop;
 
 pub use making::machine_of_core;

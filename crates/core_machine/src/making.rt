@@ -6,9 +6,9 @@ ghost use Rattle.core_machine.specs.declared.stop.Stop.TheVariants as stop;
 
 use crate::heading::{frames_in, heading_of, plain_layout};
 use crate::laying::lay_all;
+use crate::segments::open;
 use crate::stop::Stop;
 use byte_streams::Source;
-use core_segments::open;
 use image_machine::FilledPlan;
 use machine::Dump;
 use std::alloc::Global;

@@ -1,6 +1,6 @@
 ghost use Rattle.std.specs.Prelude.{◌≡◌};
 
-use core_segments::{Fault, Stop as CoreStop};
+use crate::segments::{Fault, Stop as CoreStop};
 use image_machine::{Limit, Stop as MachineStop};
 use thiserror::Error;
 

@@ -1,8 +1,8 @@
 -- The lines that say why a core file is refused.
 use Rattle.std.specs.Prelude.{ℕ, List, ◌++◌, codes, decimal}
 use Rattle.command_kit.specs.Told.{line}
-use Rattle.core_segments.specs.declared.fault.Fault.{Fault}
-use Rattle.core_segments.specs.declared.fault.Fault.TheVariants as fault
+use Rattle.core_machine.specs.declared.segments.fault.Fault.{Fault}
+use Rattle.core_machine.specs.declared.segments.fault.Fault.TheVariants as fault
 
 abbrev pub fault_text : Fault → List ℕ
 fault_text (fault.Short at) = codes "core file ends at byte " ++ decimal at

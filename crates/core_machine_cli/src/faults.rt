@@ -2,7 +2,7 @@ ghost use Rattle.std.specs.Prelude.{◌≡◌, ◌≤◌, ◌+◌, ◌++◌, len
 ghost use Rattle.core_machine_cli.specs.FaultLines.{fault_line};
 
 use byte_streams::Line;
-use core_segments::Fault;
+use core_machine::segments::Fault;
 
 /// Returns the line that says why a core file is refused.
 pub(crate) fn fault_line(fault: &Fault) -> Line

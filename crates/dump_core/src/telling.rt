@@ -8,9 +8,9 @@ ghost use Rattle.dump_core.specs.Cores.{is_told, told_runs};
 
 use crate::runs::add_number;
 use bitflags::Flags;
+use frame_table::{PageFlags, entry};
 use machine::Dump;
 use page_core::NoMemory;
-use page_states::{PageFlags, entry};
 use std::alloc::Global;
 
 /// Returns the runs of page frames that go into the core file of a dump, in ascending order: the first page frame of

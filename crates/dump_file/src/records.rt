@@ -14,7 +14,7 @@ use crate::dump::{DumpKind, DumpStop};
 use crate::fill::{fault, read_number, take_exact};
 use byte_streams::Source;
 use frame_arena::Frames;
-use zones::Zones;
+use frame_sets::Zones;
 
 /// The number of bytes of a record: a page frame's number and its content.
 pub(crate) const RECORD: u64 = 4100;

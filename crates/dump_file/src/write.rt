@@ -15,9 +15,9 @@ use crate::head::Head;
 use crate::put::put_number;
 use byte_streams::{Sink, put_all};
 use frame_arena::Frames;
+use frame_sets::Zones;
 use machine::Hardware;
 use page_core::Failed;
-use zones::Zones;
 
 /// Writes the dump of a machine: its hardware without its regions, and a record for each valid page frame that isn't
 /// all zero. Nothing is flushed.

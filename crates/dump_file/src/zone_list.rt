@@ -8,7 +8,7 @@ ghost use Rattle.dump_file.specs.Reading.{IsRead, IsReadTo};
 use crate::dump::{DumpKind, DumpStop};
 use crate::fill::{fault, read_pair};
 use byte_streams::Source;
-use zones::Zones;
+use frame_sets::Zones;
 
 /// The byte at which the zones begin.
 pub(crate) const ZONES: u64 = 424;

@@ -1,7 +1,7 @@
 -- An image whose maps don't lie on the disk that is searched for them.
 use Rattle.std.specs.Prelude.{ℕ, nat_le, Option, Some, None, if◌then◌else◌}
-use Rattle.sig_header.specs.declared.area.AreaKind.{AreaKind}
-use Rattle.sig_header.specs.declared.area.AreaKind.TheVariants as kind
+use Rattle.image_format.specs.declared.signature.area.AreaKind.{AreaKind}
+use Rattle.image_format.specs.declared.signature.area.AreaKind.TheVariants as kind
 
 -- the block of the first map (`image` of struct swsusp_header), if the disk ends before it
 abbrev pub map_beyond : ℕ → AreaKind → Option ℕ

@@ -1,11 +1,11 @@
 ghost use Rattle.std.specs.Prelude.{◌≡◌, ◌⊎◌, ◌≤◌, ◌<◌, ◌+◌, IfSome, None};
 ghost use Rattle.definitions.specs.Disk.{HasRisen, as_it_reads, block};
-ghost use Rattle.sig_header.specs.AreaKind.{area_kind};
+ghost use Rattle.image_format.specs.AreaKind.{area_kind};
 ghost use Rattle.file_disk.specs.Beyond.{map_beyond};
 
+use image_format::AreaKind;
 use page_core::Page;
 use sector_disk::Disk;
-use sig_header::AreaKind;
 
 /// Returns the block of the first map that an image's header block names, if the disk ends before it. This happens if a
 /// swap file is given in place of the device that it lies in: the header is the file's first block, and the maps name

@@ -4,10 +4,10 @@ ghost use Rattle.std.specs.Fd.{file_raw_fd};
 ghost use Rattle.file_disk.specs.FileDisk.{IsNewFileDisk, IsNoStream};
 
 use crate::lock::{lock_exclusive, lock_shared};
+use image_format::AreaKind;
 use kernel_use::is_in_use;
 use page_core::{Failed, Page};
 use sector_disk::{Disk, Order, Orders};
-use sig_header::AreaKind;
 use std::fs::{File, Metadata, OpenFile, OpenOptions};
 use std::io::{self, ErrorKind, Seek, SeekFrom};
 use std::os::fd::AsRawFd;

@@ -4,7 +4,7 @@ use Rattle.std.proofs.lemmas.Bool.{false≢true, lt-ltb, le-ltb}
 use Rattle.page_core.specs.declared.format.Format.{Format}
 use Rattle.definitions.specs.Disk as disk
 use Rattle.definitions.proofs.Ascending.{Contains-nil}
-use Rattle.sig_header.specs.declared.area.Area.{Area}
+use Rattle.image_format.specs.declared.signature.area.Area.{Area}
 use Rattle.snapshot.specs.Taken.{Taken, zero_frames}
 use Rattle.snapshot.specs.declared.Counts.{Counts}
 use Rattle.swap_slots.specs.Table.{free_in}

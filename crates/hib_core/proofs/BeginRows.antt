@@ -9,7 +9,7 @@ use Rattle.definitions.specs.Zones.{top}
 use Rattle.definitions.specs.declared.info.Info.{Info}
 use Rattle.definitions.proofs.Ascending.{Contains-nil, Contains-head, Contains-tail, Contains-cons_cases}
 use Rattle.definitions.proofs.FreeSlots.{free_slot}
-use Rattle.prealloc.proofs.Picks.{Contains-from_take}
+use Rattle.frame_table.proofs.Picks.{Contains-from_take}
 use Rattle.snapshot.specs.Taken.{Taken}
 use Rattle.snapshot.specs.declared.Counts.{Counts}
 use Rattle.swap_slots.specs.Runs.{SlotRuns}

@@ -13,8 +13,8 @@ use Rattle.definitions.specs.ZoneFacts.{AreZones}
 use Rattle.definitions.proofs.FreeSlots.{free_slot}
 use Rattle.definitions.proofs.ZoneLists.{Contains-from_free_frames}
 use Rattle.definitions.proofs.ZoneNumbers.{below_top, count_at_most, range-bounds, top_at_most, top_is_next}
-use Rattle.prealloc.proofs.Picks.{Contains-from_take}
-use Rattle.sig_header.specs.declared.area.Area.{Area}
+use Rattle.frame_table.proofs.Picks.{Contains-from_take}
+use Rattle.image_format.specs.declared.signature.area.Area.{Area}
 use Rattle.swap_slots.specs.Runs.{SlotRuns}
 use Rattle.swap_slots.specs.Table.{Matches, free_in}
 use Rattle.image_write.specs.Writing.{BlocksBelow, writes_of}

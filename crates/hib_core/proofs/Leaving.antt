@@ -8,7 +8,7 @@ use Rattle.definitions.proofs.Ascending.{Contains-nil}
 use Rattle.definitions.proofs.FreeSlots.{free_slot, image_slot as named}
 use Rattle.definitions.proofs.TableEntries.{with_entries-none, frame-with_entries_other}
 use Rattle.definitions.proofs.ZoneLists.{Contains-from_free_frames}
-use Rattle.prealloc.proofs.Picks.{Contains-from_take}
+use Rattle.frame_table.proofs.Picks.{Contains-from_take}
 use Rattle.swap_slots.specs.Table.{free_in}
 use Rattle.swap_slots.specs.declared.table.SlotTable.{SlotTable}
 use Rattle.image_write.specs.Writing.{Writing, IsWriting, slots_of_write, taken_after}

@@ -1,7 +1,7 @@
 -- A step of the writer.
 use Rattle.std.proofs.Common.{◌≡◌, ◌<◌, All, Bor, ℕ, ◌+◌, List, [], length, Option, Some, None, sym, ap, ◌∙◌, subst, arith}
 use Rattle.std.specs.Option.{IfSome, IfNone, option_copied}
-use Rattle.memory_bitmap.specs.FrameSet.{FrameSet}
+use Rattle.frame_sets.specs.FrameSet.{FrameSet}
 use Rattle.pfn_pack.specs.Places.{members_in}
 use Rattle.snapshot.specs.Taken.{set_over, Taken}
 use Rattle.definitions.specs.declared.info.Info.{Info}

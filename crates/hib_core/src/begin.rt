@@ -16,12 +16,12 @@ ghost use Rattle.swap_slots.specs.Table.{LiesIn, Matches};
 use crate::hib::{Ending, Saving, Stage};
 use crate::{Hib, Job};
 use frame_arena::Frames;
-use image_header::Info;
+use frame_table::View;
+use image_format::info::Info;
 use image_write::Writer;
 use machine::{Hardware, Machine, slot_table};
 use page_core::Format;
 use plain_machine::{Held, Reply};
-use saveable::View;
 use snapshot::Counts;
 use swap_slots::FreeRuns;
 

@@ -10,11 +10,11 @@ ghost use Rattle.sector_disk.specs.Called.{Called, OneCall};
 use crate::Hib;
 use crate::hib::Stage;
 use frame_arena::Frames;
+use image_format::{AreaKind, take_back};
 use machine::Machine;
 use page_core::{Failed, Page};
 use plain_machine::{Held, Left, Reply};
 use sector_disk::Disk;
-use sig_header::{AreaKind, take_back};
 use swap_slots::FreeRuns;
 
 /// The number of steps of a settling: a read, a write and a sync.

@@ -8,11 +8,11 @@ ghost use Rattle.sector_disk.specs.Called.{Called, OneCall};
 use crate::Hib;
 use crate::hib::Stage;
 use frame_arena::Frames;
+use image_format::take_back;
 use machine::Machine;
 use page_core::Failed;
 use plain_machine::{Held, Left, Reply, UndoCall};
 use sector_disk::Disk;
-use sig_header::take_back;
 use swap_slots::FreeRuns;
 
 // Undoing a mark whose write or sync failed (swsusp_unmark, kernel/power/swap.c).

@@ -4,8 +4,8 @@ use Rattle.std.specs.Bool.{MatchBool}
 use Rattle.page_core.specs.declared.format.Format.{Format}
 use Rattle.definitions.specs.Disk.{Content}
 use Rattle.definitions.specs.SwapHeader.{taken_back}
-use Rattle.sig_header.specs.AreaKind.{area_kind}
-use Rattle.sig_header.specs.declared.area.Mark.{Mark}
+use Rattle.image_format.specs.AreaKind.{area_kind}
+use Rattle.image_format.specs.declared.signature.area.Mark.{Mark}
 use Rattle.image_walk.specs.declared.limits.Limits.{Limits}
 use Rattle.image_check.specs.Checked.{FindsImage, FindsNames, format_of}
 use Rattle.image_check.specs.Header.{header_findings, is_compressed, limits_of}

@@ -2,10 +2,10 @@
 use Rattle.std.specs.Prelude.{ℕ, ◌/◌, ◌%◌, ◌==◌, ◌&&◌, Bool, List, ◌++◌, nat_le, replicate, if◌then◌else◌, Option, Some}
 use Rattle.std.specs.Prelude.{None}
 use Rattle.definitions.specs.SwapHeader.{taken_back}
-use Rattle.sig_header.specs.AreaKind.{area_kind}
-use Rattle.sig_header.specs.declared.area.AreaFault.TheVariants as fault
-use Rattle.sig_header.specs.declared.area.AreaKind.{AreaKind}
-use Rattle.sig_header.specs.declared.area.AreaKind.TheVariants as kind
+use Rattle.image_format.specs.AreaKind.{area_kind}
+use Rattle.image_format.specs.declared.signature.area.AreaFault.TheVariants as fault
+use Rattle.image_format.specs.declared.signature.area.AreaKind.{AreaKind}
+use Rattle.image_format.specs.declared.signature.area.AreaKind.TheVariants as kind
 use Rattle.image_walk.specs.declared.limits.Limits.{Limits}
 use Rattle.image_check.specs.declared.finding.Finding.{Finding}
 use Rattle.image_check.specs.declared.finding.Finding.TheVariants as finding

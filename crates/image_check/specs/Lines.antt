@@ -2,8 +2,8 @@
 use Rattle.std.specs.Prelude.{ℕ, List, [], ◌++◌, codes, decimal, flat_map}
 use Rattle.byteorder.specs.Endian.{big_bytes}
 use Rattle.plain_machine.specs.Replies.{hex_text}
-use Rattle.sig_header.specs.declared.area.AreaFault.{AreaFault}
-use Rattle.sig_header.specs.declared.area.AreaFault.TheVariants as area
+use Rattle.image_format.specs.declared.signature.area.AreaFault.{AreaFault}
+use Rattle.image_format.specs.declared.signature.area.AreaFault.TheVariants as area
 use Rattle.lzo.specs.declared.fault.Kind.{Kind}
 use Rattle.lzo.specs.declared.fault.Kind.TheVariants as kind
 use Rattle.lzo.specs.declared.fault.LzoFault.{LzoFault}

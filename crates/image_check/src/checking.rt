@@ -15,10 +15,10 @@ use crate::entries::check_name;
 use crate::header::{check_header, is_compressed, limits_of};
 use crate::progress::Progress;
 use crate::{Finding, Report};
+use image_format::{AreaKind, Mark, SF_SKIPS_ZEROS};
 use image_walk::Walker;
 use page_core::{Format, NoMemory, Page};
 use sector_disk::Disk;
-use sig_header::{AreaKind, Mark, SF_SKIPS_ZEROS};
 use std::alloc::Global;
 
 /// Whether there was an image to check.

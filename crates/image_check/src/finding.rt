@@ -1,6 +1,6 @@
+use image_format::AreaFault;
 use image_walk::BlockFault;
 use lzo::LzoFault;
-use sig_header::AreaFault;
 
 /// What an info page says of an image's size.
 #[derive(Clone, Copy)]

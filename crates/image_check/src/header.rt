@@ -1,16 +1,16 @@
 //! The header block of an area that is marked as an image.
 ghost use Rattle.std.specs.Prelude.{◌≡◌};
 ghost use Rattle.definitions.specs.SwapHeader.{taken_back};
-ghost use Rattle.sig_header.specs.AreaKind.{area_kind};
+ghost use Rattle.image_format.specs.AreaKind.{area_kind};
 ghost use Rattle.image_check.specs.Header.{any_block, area_fault, compressed_fault, header_findings, is_compressed};
 ghost use Rattle.image_check.specs.Header.{limits_of};
 ghost use Rattle.image_check.specs.Told.{Tells};
 
 use crate::report::tell_any;
 use crate::{Finding, Report};
+use image_format::{Area, AreaFault, AreaKind, MOST_BADPAGES, SF_NOCOMPRESS_MODE, take_back};
 use image_walk::Limits;
 use page_core::Page;
-use sig_header::{Area, AreaFault, AreaKind, MOST_BADPAGES, SF_NOCOMPRESS_MODE, take_back};
 
 /// Reports what is wrong with a header block whose mark has these flags.
 pub fn check_header<R: Report>(report: &mut R, blocks: u32, header: u32, flags: u32, page: &Page)

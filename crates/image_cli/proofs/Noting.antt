@@ -2,10 +2,10 @@
 use Rattle.std.proofs.Common.{◌≡◌, ℕ, ◌≤◌, List, Option, ap, inl, inr, arith}
 use Rattle.definitions.specs.Disk.{Content}
 use Rattle.image_check.specs.Told.{Told}
-use Rattle.image_saved.specs.Found.{Finds}
+use Rattle.image_pages.specs.Found.{Finds}
 use Rattle.image_stream.specs.Streamed.{IsStreamed}
-use Rattle.image_saved.specs.declared.finding.Found.{Found}
-use Rattle.image_saved.specs.declared.finding.Found.TheVariants as found
+use Rattle.image_pages.specs.declared.saved.finding.Found.{Found}
+use Rattle.image_pages.specs.declared.saved.finding.Found.TheVariants as found
 use Rattle.image_stream.specs.declared.streaming.Streamed.{Streamed}
 use Rattle.image_stream.specs.declared.streaming.Streamed.TheVariants as streamed
 

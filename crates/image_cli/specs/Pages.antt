@@ -7,9 +7,9 @@ use Rattle.command_kit.specs.View.{SinkView}
 use Rattle.command_kit.specs.declared.status.Status.{Status}
 use Rattle.command_kit.specs.declared.status.Status.TheVariants.{Done}
 use Rattle.image_check.specs.Told.{Told}
-use Rattle.image_saved.specs.Found.{Finds}
-use Rattle.image_saved.specs.declared.finding.Found.{Found}
-use Rattle.image_saved.specs.declared.finding.Found.TheVariants as found
+use Rattle.image_pages.specs.Found.{Finds}
+use Rattle.image_pages.specs.declared.saved.finding.Found.{Found}
+use Rattle.image_pages.specs.declared.saved.finding.Found.TheVariants as found
 use Rattle.image_cli.specs.Notes.{IsNoted}
 use Rattle.image_cli.specs.Streams.{refused_told}
 

@@ -12,7 +12,7 @@ use crate::showing::cut_short;
 use byte_streams::{Line, Sink};
 use command_kit::{Answer, Status, no_memory, tell};
 use image_check::Printer;
-use image_saved::{Found, page_of};
+use image_pages::{Found, page_of};
 use image_stream::{Stop, Streamed};
 use page_core::{NoMemory, Page};
 use sector_disk::Disk;

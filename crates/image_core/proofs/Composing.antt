@@ -8,10 +8,10 @@ use Rattle.definitions.specs.Streams.{TakesAll, TakesFront}
 use Rattle.byte_streams.proofs.Taken.{TakesAll-both, TakesFront-first, TakesFront-second}
 use Rattle.elf_core.specs.Elf.{back_bytes, core_bytes, front_bytes, head_bytes}
 use Rattle.image_pages.specs.Chain.{IsChainPage, chain_page}
-use Rattle.image_saved.specs.Formats.{chain_format}
-use Rattle.image_saved.specs.Saved.{count_in, number_in}
-use Rattle.image_frames.specs.SavedFrames.{SavedFrame, saved_at, saved_frames}
-use Rattle.image_frames.specs.SavedNumbers.{saved_numbers}
+use Rattle.image_pages.specs.Formats.{chain_format}
+use Rattle.image_pages.specs.Saved.{count_in, number_in}
+use Rattle.image_pages.specs.SavedFrames.{SavedFrame, saved_at, saved_frames}
+use Rattle.image_pages.specs.SavedNumbers.{saved_numbers}
 use Rattle.definitions.proofs.Pieces.{Takes-none}
 use Rattle.image_pages.proofs.Earlier.{ended_earlier}
 use Rattle.image_core.specs.declared.stop.Stop.{Stop}

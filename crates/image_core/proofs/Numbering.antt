@@ -7,12 +7,12 @@ use Rattle.definitions.specs.FreeRuns.{runs_of}
 use Rattle.image_check.specs.Info.{counts_in}
 use Rattle.image_facts.specs.Runs.{list_of}
 use Rattle.image_pages.specs.Chain.{chain_page}
-use Rattle.image_saved.specs.Formats.{chain_format}
-use Rattle.image_saved.specs.Saved.{count_in, number_in}
-use Rattle.image_frames.specs.Numbered.{HasNumbered}
-use Rattle.image_frames.specs.SaysNumber.{IsNextNumber}
-use Rattle.image_frames.specs.SavedNumbers.{AreAllNumbers, AreFirstNumbers, first_numbers, saved_numbers}
-use Rattle.image_frames.specs.declared.numbers.Numbers.{Numbers}
+use Rattle.image_pages.specs.Formats.{chain_format}
+use Rattle.image_pages.specs.Saved.{count_in, number_in}
+use Rattle.image_pages.specs.Numbered.{HasNumbered}
+use Rattle.image_pages.specs.SaysNumber.{IsNextNumber}
+use Rattle.image_pages.specs.SavedNumbers.{AreAllNumbers, AreFirstNumbers, first_numbers, saved_numbers}
+use Rattle.image_pages.specs.declared.frames.numbers.Numbers.{Numbers}
 use Rattle.image_core.specs.Counted.{HasCounted, WillGive}
 use Rattle.image_core.specs.Runs.{HasEnded}
 use Rattle.image_core.specs.declared.counter.RunCounter.{RunCounter}

@@ -9,14 +9,14 @@ use Rattle.definitions.specs.Streams.{TakesAll, TakesFront}
 use Rattle.byte_streams.proofs.Taken.{TakesAll-both, TakesAll-none, TakesFront-all, TakesFront-first, TakesFront-second}
 use Rattle.image_check.specs.Info.{counts_in}
 use Rattle.image_pages.specs.Chain.{chain_page}
-use Rattle.image_saved.specs.Formats.{chain_format}
+use Rattle.image_pages.specs.Formats.{chain_format}
 use Rattle.image_pages.specs.Ends.{IsEnded}
 use Rattle.image_pages.proofs.Earlier.{ended_earlier}
-use Rattle.image_saved.specs.Saved.{count_in}
-use Rattle.image_frames.specs.Given.{HasGiven, frame_of}
-use Rattle.image_frames.specs.SavedFrames.{AreAllSaved, AreFirstSaved, SavedFrame, first_saved, saved_at, saved_frames}
-use Rattle.image_frames.specs.Says.{AreAllGiven, IsNextFrame}
-use Rattle.image_frames.specs.declared.frames.Frames.{Frames}
+use Rattle.image_pages.specs.Saved.{count_in}
+use Rattle.image_pages.specs.Given.{HasGiven, frame_of}
+use Rattle.image_pages.specs.SavedFrames.{AreAllSaved, AreFirstSaved, SavedFrame, first_saved, saved_at, saved_frames}
+use Rattle.image_pages.specs.Says.{AreAllGiven, IsNextFrame}
+use Rattle.image_pages.specs.declared.frames.frames.Frames.{Frames}
 use Rattle.image_core.specs.Cores.{pages_of}
 use Rattle.image_core.specs.Counted.{HasTallied}
 use Rattle.image_core.specs.Parts.{HasPages}

@@ -6,13 +6,13 @@ use Rattle.definitions.specs.FreeRuns.{runs_of}
 use Rattle.definitions.specs.Streams.{TakesAll, TakesFront}
 use Rattle.image_check.specs.Told.{Told}
 use Rattle.image_pages.specs.Chain.{IsChainPage, IsWholeStream, chain_page}
-use Rattle.image_saved.specs.Formats.{chain_format}
+use Rattle.image_pages.specs.Formats.{chain_format}
 use Rattle.image_pages.specs.Ends.{IsEnded}
 use Rattle.image_pages.specs.Opens.{IsNoImage}
-use Rattle.image_saved.specs.Saved.{count_in}
-use Rattle.image_frames.specs.Opens.{IsBad}
-use Rattle.image_frames.specs.SavedFrames.{AreAllSaved, SavedFrame, saved_frames}
-use Rattle.image_frames.specs.SavedNumbers.{AreAllNumbers}
+use Rattle.image_pages.specs.Saved.{count_in}
+use Rattle.image_pages.specs.OpensFrames.{IsBad}
+use Rattle.image_pages.specs.SavedFrames.{AreAllSaved, SavedFrame, saved_frames}
+use Rattle.image_pages.specs.SavedNumbers.{AreAllNumbers}
 use Rattle.elf_core.specs.Elf.{core_bytes}
 use Rattle.image_core.specs.Identity.{identity_of, machine_of}
 use Rattle.image_core.specs.declared.stop.Stop.{Stop}

@@ -3,8 +3,8 @@ use Rattle.std.specs.Prelude.{◌≡◌, ℕ, ◌<◌, List, length, Option}
 use Rattle.definitions.specs.Disk.{Content}
 use Rattle.definitions.specs.FreeRuns.{runs_of}
 use Rattle.image_check.specs.Info.{counts_in}
-use Rattle.image_frames.specs.SavedNumbers.{AreAllNumbers}
-use Rattle.image_frames.specs.declared.numbers.Numbers.{Numbers}
+use Rattle.image_pages.specs.SavedNumbers.{AreAllNumbers}
+use Rattle.image_pages.specs.declared.frames.numbers.Numbers.{Numbers}
 use Rattle.image_core.specs.declared.counting.Tally.{Tally}
 
 -- the given number of numbers will be given, by the info page

@@ -8,8 +8,8 @@ use Rattle.definitions.specs.Streams.{TakesAll}
 use Rattle.elf_core.specs.Elf.{loads_bytes, page_offset}
 use Rattle.image_pages.specs.Chain.{IsWholeStream}
 use Rattle.image_pages.specs.Ends.{IsEnded}
-use Rattle.image_frames.specs.SavedFrames.{AreAllSaved, SavedFrame}
-use Rattle.image_frames.specs.SavedNumbers.{AreAllNumbers, saved_numbers}
+use Rattle.image_pages.specs.SavedFrames.{AreAllSaved, SavedFrame}
+use Rattle.image_pages.specs.SavedNumbers.{AreAllNumbers, saved_numbers}
 use Rattle.image_core.specs.Cores.{pages_of}
 use Rattle.image_core.specs.declared.counting.Tally.{Tally}
 

@@ -2,8 +2,8 @@
 use Rattle.std.specs.Prelude.{ℕ, [], Option}
 use Rattle.definitions.specs.Disk.{Content}
 use Rattle.image_pages.specs.Chain.{IsChainPage}
-use Rattle.image_frames.specs.Given.{HasGiven}
-use Rattle.image_frames.specs.Numbered.{HasNumbered}
+use Rattle.image_pages.specs.Given.{HasGiven}
+use Rattle.image_pages.specs.Numbered.{HasNumbered}
 use Rattle.image_core.specs.Counted.{HasTallied}
 use Rattle.image_core.specs.declared.coring.Ready.{Ready}
 

@@ -9,7 +9,7 @@ use crate::pages::write_pages;
 use crate::stop::Stop;
 use byte_streams::Sink;
 use image_check::Report;
-use image_frames::{Frames, Numbers};
+use image_pages::frames::{Frames, Numbers};
 use page_core::Page;
 use sector_disk::Disk;
 use std::alloc::Global;

@@ -1,5 +1,5 @@
 ghost use Rattle.std.specs.Prelude.{◌≡◌, ◌<◌, ◌≤◌, ℕ, [], IfErr, IfOk, OnOk};
-ghost use Rattle.image_frames.specs.Numbered.{HasNumbered};
+ghost use Rattle.image_pages.specs.Numbered.{HasNumbered};
 ghost use Rattle.image_core.specs.Cores.{IsStopped};
 ghost use Rattle.image_core.specs.Counted.{HasCounted, HasTallied, WillGive};
 
@@ -7,7 +7,7 @@ use crate::counter::RunCounter;
 use crate::opening::open_numbers;
 use crate::stop::Stop;
 use image_check::Report;
-use image_frames::{NextNumber, Numbers};
+use image_pages::frames::{NextNumber, Numbers};
 use sector_disk::Disk;
 use std::alloc::Global;
 

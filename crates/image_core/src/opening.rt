@@ -1,14 +1,13 @@
 ghost use Rattle.std.specs.Prelude.{◌≡◌, ◌≤◌, [], IfErr, IfOk, OnOk};
 ghost use Rattle.image_pages.specs.Chain.{IsChainPage};
-ghost use Rattle.image_frames.specs.Given.{HasGiven};
-ghost use Rattle.image_frames.specs.Numbered.{HasNumbered};
+ghost use Rattle.image_pages.specs.Given.{HasGiven};
+ghost use Rattle.image_pages.specs.Numbered.{HasNumbered};
 ghost use Rattle.image_core.specs.Cores.{IsStopped};
 
 use crate::stop::Stop;
 use image_check::Report;
-use image_frames::{Frames, Numbers, Opened, OpenedNumbers};
-use image_pages::{self, Pages};
-use image_saved::read_page;
+use image_pages::frames::{Frames, Numbers, Opened, OpenedNumbers};
+use image_pages::{self, Pages, read_page};
 use page_core::Page;
 use sector_disk::Disk;
 use std::alloc::Global;

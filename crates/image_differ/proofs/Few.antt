@@ -3,7 +3,7 @@ use Rattle.std.proofs.Common.{ℕ, ◌≤◌, Bool, true, false, List, [], ◌�
 use Rattle.std.proofs.lemmas.List.FromFn.{length-range_with_len}
 use Rattle.std.specs.List.{range_with_len}
 use Rattle.std.specs.Cmp.Lexicographic.{pointwise}
-use Rattle.image_frames.specs.SavedFrames.{SavedFrame}
+use Rattle.image_pages.specs.SavedFrames.{SavedFrame}
 use Rattle.image_differ.specs.Compares.{HasCompared}
 use Rattle.image_differ.specs.Differences.{difference_at, frame_differences, page_of}
 use Rattle.image_differ.specs.Headings.{heading_difference, heading_differences, list_of}

@@ -5,8 +5,8 @@ use Rattle.std.proofs.lemmas.Bool.{eq-eqb, ne_eqb}
 use Rattle.std.proofs.lemmas.List.Concat.{flat_map-append}
 use Rattle.std.proofs.lemmas.List.Elements.{All-head, All-nil, All-tail, All-push, All-weaker}
 use Rattle.std.proofs.Math.Seq.{get_or-append_seam}
-use Rattle.image_frames.specs.Given.{frame_of}
-use Rattle.image_frames.specs.SavedFrames.{SavedFrame}
+use Rattle.image_pages.specs.Given.{frame_of}
+use Rattle.image_pages.specs.SavedFrames.{SavedFrame}
 use Rattle.image_differ.specs.Differences.{difference_at, frame_differences, page_of}
 use Rattle.image_differ.specs.Readings.{AreBelow, AreFrom, IsHead}
 use Rattle.image_differ.specs.declared.difference.Difference.{Difference}

@@ -8,11 +8,11 @@ use Rattle.image_walk.specs.Names.{Name, IsReading as IsReadingOf}
 use Rattle.image_check.specs.Checked.{has_unread}
 use Rattle.image_check.specs.Image.{history_findings, name_findings}
 use Rattle.image_pages.proofs.Findings.{left_none, right_none, not_unread}
-use Rattle.image_frames.proofs.Giving.{given_size}
-use Rattle.image_frames.specs.Given.{frame_of}
-use Rattle.image_frames.specs.SavedFrames.{SavedFrame}
-use Rattle.image_frames.specs.Says.{AreAllGiven, IsNextFrame}
-use Rattle.image_frames.specs.declared.frames.Frames.{Frames}
+use Rattle.image_pages.proofs.Giving.{given_size}
+use Rattle.image_pages.specs.Given.{frame_of}
+use Rattle.image_pages.specs.SavedFrames.{SavedFrame}
+use Rattle.image_pages.specs.Says.{AreAllGiven, IsNextFrame}
+use Rattle.image_pages.specs.declared.frames.frames.Frames.{Frames}
 use Rattle.image_differ.specs.Readings.{AreAll, IsPlace, IsReading, IsReady, left_at}
 use Rattle.image_differ.specs.Sides.{SideView}
 use Rattle.image_differ.specs.declared.reading.Place.{Place}

@@ -2,12 +2,12 @@
 use Rattle.std.proofs.Common.{◌≡◌, ℕ, List, [], ◌∷◌, ◌++◌, Option, Ok, sym, subst, ◌∙◌, arith}
 use Rattle.definitions.specs.Disk.{Content}
 use Rattle.image_walk.specs.Names.{IsReadFrom}
-use Rattle.image_frames.specs.Given.{HasGiven}
-use Rattle.image_frames.specs.SavedFrames.{SavedFrame}
-use Rattle.image_frames.specs.Says.{AreAllGiven}
-use Rattle.image_frames.specs.declared.frames.Frames.{Frames}
+use Rattle.image_pages.specs.Given.{HasGiven}
+use Rattle.image_pages.specs.SavedFrames.{SavedFrame}
+use Rattle.image_pages.specs.Says.{AreAllGiven}
+use Rattle.image_pages.specs.declared.frames.frames.Frames.{Frames}
 use Rattle.image_pages.specs.Ends.{IsRefused}
-use Rattle.image_saved.proofs.Since.{refused_since}
+use Rattle.image_pages.proofs.SinceSaved.{refused_since}
 use Rattle.image_differ.specs.Compares.{HasCompared, IsWrong, Says}
 use Rattle.image_differ.specs.Marks.{IsHeading}
 use Rattle.image_differ.specs.Readings.{IsPlace, IsReading}

@@ -2,8 +2,8 @@
 use Rattle.std.proofs.Common.{◌≡◌, ℕ, ◌+◌, ◌<◌, ◌≤◌, Bool, true, false, cond, ltb, nat_eq, List, [], ◌∷◌, ◌++◌, Some, None, refl, sym, ap, subst, ◌∙◌, arith, append_assoc}
 use Rattle.std.specs.Cmp.Lexicographic.{pointwise}
 use Rattle.std.proofs.lemmas.Bool.{ltb-true, ltb-false}
-use Rattle.image_frames.specs.Given.{HasGiven}
-use Rattle.image_frames.specs.SavedFrames.{SavedFrame}
+use Rattle.image_pages.specs.Given.{HasGiven}
+use Rattle.image_pages.specs.SavedFrames.{SavedFrame}
 use Rattle.image_differ.specs.Compares.{AreCompared, HasCompared}
 use Rattle.image_differ.specs.Differences.{frame_differences, no_frame}
 use Rattle.image_differ.specs.Headings.{heading_differences}

@@ -1,8 +1,8 @@
 -- What a comparison of two images has reported, and what comes next.
 use Rattle.std.specs.Prelude.{◌≡◌, ℕ, ◌+◌, ◌<◌, ◌≤◌, List, [], ◌∷◌, ◌++◌, Option, Some, None}
-use Rattle.image_frames.specs.Opens.{IsBad}
-use Rattle.image_frames.specs.SavedFrames.{SavedFrame}
-use Rattle.image_frames.specs.Says.{AreAllGiven}
+use Rattle.image_pages.specs.OpensFrames.{IsBad}
+use Rattle.image_pages.specs.SavedFrames.{SavedFrame}
+use Rattle.image_pages.specs.Says.{AreAllGiven}
 use Rattle.image_pages.specs.Ends.{IsRefused}
 use Rattle.image_pages.specs.Opens.{IsNoImage}
 use Rattle.image_differ.specs.Differences.{Image, differences, frame_differences, no_frame}

@@ -3,7 +3,7 @@
 use Rattle.std.specs.Prelude.{ℕ, ◌==◌, ◌^◌, nat_eq, List, [], ◌∷◌, ◌++◌, flat_map, if◌then◌else◌, Option, Some, None}
 use Rattle.std.specs.List.{range_with_len}
 use Rattle.std.specs.Cmp.Lexicographic.{pointwise}
-use Rattle.image_frames.specs.SavedFrames.{SavedFrame}
+use Rattle.image_pages.specs.SavedFrames.{SavedFrame}
 use Rattle.image_differ.specs.Headings.{heading_differences}
 use Rattle.image_differ.specs.declared.difference.Difference.{Difference}
 use Rattle.image_differ.specs.declared.difference.Difference.TheVariants as difference

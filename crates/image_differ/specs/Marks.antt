@@ -1,8 +1,8 @@
 -- What an image says apart from its page frames, in its header block and its info page.
 use Rattle.std.specs.Prelude.{◌≡◌, ℕ, List, Some, Ok}
 use Rattle.definitions.specs.InfoPage.{info_of}
-use Rattle.sig_header.specs.AreaKind.{area_kind}
-use Rattle.sig_header.specs.declared.area.Mark.{Mark}
+use Rattle.image_format.specs.AreaKind.{area_kind}
+use Rattle.image_format.specs.declared.signature.area.Mark.{Mark}
 use Rattle.image_walk.specs.Names.{IsReadFrom}
 use Rattle.image_check.specs.Checked.{mark_in}
 use Rattle.image_pages.specs.Opens.{IsBadHeader, IsNoImage}

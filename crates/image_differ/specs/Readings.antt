@@ -1,10 +1,10 @@
 -- A reading of an image, page frame by page frame, and which of two readings is next.
 use Rattle.std.specs.Prelude.{◌≡◌, ℕ, ◌+◌, ◌-◌, ◌<◌, ◌≤◌, nat_lt, Bool, true, false, All, List, [], ◌∷◌, ◌++◌}
 use Rattle.std.specs.Prelude.{if◌then◌else◌}
-use Rattle.image_frames.specs.Given.{HasGiven, frame_of}
-use Rattle.image_frames.specs.SavedFrames.{SavedFrame}
-use Rattle.image_frames.specs.Says.{AreAllGiven}
-use Rattle.image_frames.specs.declared.frames.Frames.{Frames}
+use Rattle.image_pages.specs.Given.{HasGiven, frame_of}
+use Rattle.image_pages.specs.SavedFrames.{SavedFrame}
+use Rattle.image_pages.specs.Says.{AreAllGiven}
+use Rattle.image_pages.specs.declared.frames.frames.Frames.{Frames}
 use Rattle.image_pages.specs.Ends.{IsRefused}
 use Rattle.image_differ.specs.Differences.{no_frame}
 use Rattle.image_differ.specs.Sides.{SideView}

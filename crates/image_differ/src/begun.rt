@@ -1,5 +1,5 @@
 ghost use Rattle.std.specs.Prelude.{◌≡◌, [], IfOk, OnErr};
-ghost use Rattle.image_frames.specs.Given.{HasGiven};
+ghost use Rattle.image_pages.specs.Given.{HasGiven};
 ghost use Rattle.image_differ.specs.Compares.{Begins};
 ghost use Rattle.image_differ.specs.Marks.{IsMarkedBy, Marks};
 ghost use Rattle.image_differ.specs.Sides.{OnlyReads, SideView, side_view};
@@ -7,10 +7,10 @@ ghost use Rattle.image_differ.specs.Sides.{OnlyReads, SideView, side_view};
 use crate::reading::{Place, Reading};
 use crate::{Heading, Side};
 use image_check::{Finding, Report, mark_in};
-use image_frames::{Frames, Opened};
+use image_format::{AreaKind, Mark};
+use image_pages::frames::{Frames, Opened};
 use page_core::{NoMemory, Page};
 use sector_disk::Disk;
-use sig_header::{AreaKind, Mark};
 use std::alloc::Global;
 
 /// The result of opening one of two images.

@@ -4,7 +4,7 @@ ghost use Rattle.image_differ.specs.Headings.{name_difference, part_of_name, sig
 ghost use Rattle.image_differ.specs.Headings.{version_code_difference};
 
 use crate::{Difference, Part};
-use image_header::{Ident, Info};
+use image_format::info::{Ident, Info};
 
 /// The number of parts of two headings that are compared.
 pub(crate) const PARTS: u32 = 10;

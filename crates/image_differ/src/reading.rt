@@ -4,7 +4,7 @@ ghost use Rattle.image_differ.specs.Readings.{turn_of};
 
 use crate::Side;
 use image_check::Report;
-use image_frames::{Frames, Next};
+use image_pages::frames::{Frames, Next};
 use page_core::Page;
 use sector_disk::Disk;
 
@@ -29,7 +29,7 @@ pub(crate) struct Reading {
 
 impl Reading {
     ghost use Rattle.std.specs.Prelude.{ℕ, List};
-    ghost use Rattle.image_frames.specs.SavedFrames.{SavedFrame};
+    ghost use Rattle.image_pages.specs.SavedFrames.{SavedFrame};
     ghost use Rattle.image_differ.specs.Readings.{IsReading, Readies};
     ghost use Rattle.image_differ.specs.Sides.{OnlyReads, side_view};
 

@@ -4,9 +4,9 @@ ghost use Rattle.image_discard.specs.Crashes.{IsCrash};
 ghost use Rattle.image_discard.specs.Discards.{Ends, Fails, LeavesNoImage};
 
 use crate::marks::is_marked;
+use image_format::take_back;
 use page_core::Page;
 use sector_disk::Disk;
-use sig_header::take_back;
 use thiserror::Error;
 
 /// What became of an image that was to be discarded.

@@ -4,7 +4,7 @@ use Rattle.std.proofs.lemmas.List.Elements.{All-contains}
 use Rattle.std.specs.List.{All, Contains}
 use Rattle.definitions.specs.FrameSets.{inserted}
 use Rattle.definitions.proofs.FrameSets.{Contains-inserted_itself, inserted_above}
-use Rattle.memory_bitmap.proofs.Bounds.{few_members}
+use Rattle.frame_sets.proofs.Bounds.{few_members}
 use Rattle.image_machine.specs.Plans.{IsPlan}
 use Rattle.image_machine.specs.declared.plan.Plan.{Plan}
 

@@ -4,10 +4,10 @@ use Rattle.std.proofs.lemmas.List.Elements.{All-map}
 use Rattle.std.specs.List.{Contains}
 use Rattle.definitions.specs.Disk.{Content}
 use Rattle.definitions.proofs.Ascending.{Contains-head, Contains-tail}
-use Rattle.memory_bitmap.proofs.Bounds.{few_members}
-use Rattle.image_frames.specs.Given.{HasGiven}
-use Rattle.image_frames.specs.SavedFrames.{SavedFrame}
-use Rattle.image_frames.specs.declared.frames.Frames.{Frames}
+use Rattle.frame_sets.proofs.Bounds.{few_members}
+use Rattle.image_pages.specs.Given.{HasGiven}
+use Rattle.image_pages.specs.SavedFrames.{SavedFrame}
+use Rattle.image_pages.specs.declared.frames.frames.Frames.{Frames}
 use Rattle.image_machine.specs.Filled.{IsFilled}
 use Rattle.image_machine.specs.Machines.{numbers_of}
 use Rattle.image_machine.specs.declared.filled.FilledPlan.{FilledPlan}

@@ -5,10 +5,10 @@ use Rattle.definitions.specs.Disk.{Content}
 use Rattle.definitions.specs.Zones.{numbers}
 use Rattle.image_check.specs.Told.{Told}
 use Rattle.image_pages.proofs.Earlier.{refused_earlier}
-use Rattle.image_saved.proofs.Starting.{bad_earlier}
-use Rattle.image_frames.specs.Opens.{IsBad}
-use Rattle.image_frames.specs.SavedFrames.{AreAllSaved, SavedFrame}
-use Rattle.image_frames.specs.SavedNumbers.{AreAllNumbers}
+use Rattle.image_pages.proofs.Starting.{bad_earlier}
+use Rattle.image_pages.specs.OpensFrames.{IsBad}
+use Rattle.image_pages.specs.SavedFrames.{AreAllSaved, SavedFrame}
+use Rattle.image_pages.specs.SavedNumbers.{AreAllNumbers}
 use Rattle.image_machine.specs.Layouts.{zones_of}
 use Rattle.image_machine.specs.Limits.{PassesAtLast}
 use Rattle.image_machine.specs.Loaders.{IsLoaderFor}

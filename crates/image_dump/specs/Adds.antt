@@ -3,7 +3,7 @@ use Rattle.std.specs.Prelude.{◌≡◌, ℕ, List, Option, Contains}
 use Rattle.definitions.specs.Disk.{Content}
 use Rattle.definitions.specs.Zones.{numbers}
 use Rattle.image_check.specs.Told.{Told}
-use Rattle.image_frames.specs.SavedNumbers.{AreAllNumbers, AreFirstNumbers}
+use Rattle.image_pages.specs.SavedNumbers.{AreAllNumbers, AreFirstNumbers}
 use Rattle.image_pages.specs.Ends.{IsRefused}
 use Rattle.image_machine.specs.declared.limit.Limit.{Limit}
 use Rattle.image_machine.specs.declared.limit.Limit.TheVariants.{Outside}

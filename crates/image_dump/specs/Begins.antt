@@ -2,8 +2,8 @@
 use Rattle.std.specs.Prelude.{◌≡◌, ℕ, [], Option}
 use Rattle.definitions.specs.Disk.{Content}
 use Rattle.image_check.specs.Told.{Told}
-use Rattle.image_frames.specs.Numbered.{HasNumbered}
-use Rattle.image_frames.specs.Opens.{IsBad}
+use Rattle.image_pages.specs.Numbered.{HasNumbered}
+use Rattle.image_pages.specs.OpensFrames.{IsBad}
 use Rattle.image_pages.specs.Opens.{IsBadHeader, IsNoImage}
 use Rattle.image_dump.specs.Headings.{HasNoArea, IsHeadingOf, IsMarkedBlock}
 use Rattle.image_dump.specs.declared.begun.Begun.{Begun}

@@ -4,11 +4,11 @@ use Rattle.definitions.specs.Disk.{Content}
 use Rattle.definitions.specs.InfoPage.{info_of}
 use Rattle.definitions.specs.declared.info.Info.{Info}
 use Rattle.definitions.specs.SwapHeader.{taken_back}
-use Rattle.sig_header.specs.AreaKind.{area_kind}
-use Rattle.sig_header.specs.declared.area.Area.{Area}
-use Rattle.sig_header.specs.declared.area.AreaKind.{AreaKind}
-use Rattle.sig_header.specs.declared.area.AreaKind.TheVariants as kind
-use Rattle.sig_header.specs.declared.area.Mark.{Mark}
+use Rattle.image_format.specs.AreaKind.{area_kind}
+use Rattle.image_format.specs.declared.signature.area.Area.{Area}
+use Rattle.image_format.specs.declared.signature.area.AreaKind.{AreaKind}
+use Rattle.image_format.specs.declared.signature.area.AreaKind.TheVariants as kind
+use Rattle.image_format.specs.declared.signature.area.Mark.{Mark}
 use Rattle.image_walk.specs.Names.{IsReadFrom}
 use Rattle.image_check.specs.Checked.{mark_in}
 use Rattle.image_pages.specs.Chain.{IsChainPage}

@@ -3,7 +3,7 @@ use Rattle.std.specs.Prelude.{◌≡◌, ℕ, List, map, Option, Contains}
 use Rattle.definitions.specs.Disk.{Content}
 use Rattle.definitions.specs.Zones.{numbers}
 use Rattle.image_check.specs.Told.{Told}
-use Rattle.image_frames.specs.SavedFrames.{AreAllSaved, AreFirstSaved, SavedFrame}
+use Rattle.image_pages.specs.SavedFrames.{AreAllSaved, AreFirstSaved, SavedFrame}
 use Rattle.image_machine.specs.Filled.{IsFilled}
 use Rattle.image_machine.specs.Machines.{numbers_of}
 use Rattle.image_machine.specs.declared.filled.FilledPlan.{FilledPlan}

@@ -1,11 +1,11 @@
 ghost use Rattle.std.specs.Prelude.{◌≡◌, ◌≤◌, ℕ, []};
-ghost use Rattle.image_frames.specs.Numbered.{HasNumbered};
+ghost use Rattle.image_pages.specs.Numbered.{HasNumbered};
 ghost use Rattle.image_machine.specs.Plans.{IsPlan};
 ghost use Rattle.image_dump.specs.Adds.{Adds};
 
 use image_check::Report;
-use image_frames::{NextNumber, Numbers};
 use image_machine::{Limit, Plan};
+use image_pages::frames::{NextNumber, Numbers};
 use sector_disk::Disk;
 
 /// What became of the numbers of an image.

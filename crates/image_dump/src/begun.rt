@@ -1,17 +1,17 @@
 ghost use Rattle.std.specs.Prelude.{◌≡◌, ◌≤◌, ℕ, [], Option, IfOk, OnErr};
 ghost use Rattle.definitions.specs.Disk.{Content};
-ghost use Rattle.image_frames.specs.Numbered.{HasNumbered};
+ghost use Rattle.image_pages.specs.Numbered.{HasNumbered};
 ghost use Rattle.image_check.specs.Told.{Told};
 ghost use Rattle.image_dump.specs.Begins.{Begins, Marks};
 ghost use Rattle.image_dump.specs.Headings.{IsMarkedBlock};
 
 use crate::headed::heading_of;
 use image_check::{Finding, Report, mark_in};
-use image_frames::{Numbers, OpenedNumbers};
+use image_format::{AreaKind, Mark};
 use image_machine::Heading;
+use image_pages::frames::{Numbers, OpenedNumbers};
 use page_core::{NoMemory, Page};
 use sector_disk::Disk;
-use sig_header::{AreaKind, Mark};
 use std::alloc::Global;
 
 /// What is known of an image before its numbers are read.

@@ -6,10 +6,10 @@ ghost use Rattle.image_dump.specs.Headings.{IsHeadingBy, area_in, signature_of};
 ghost use Rattle.image_dump.specs.Heads.{Heads};
 
 use image_check::mark_in;
-use image_header::{Info, decode};
+use image_format::info::{Info, decode};
+use image_format::{Area, AreaKind, Mark, SF_HW_SIG, take_back};
 use image_machine::Heading;
 use page_core::Page;
-use sig_header::{Area, AreaKind, Mark, SF_HW_SIG, take_back};
 
 /// What is known of the heading of an image.
 #[derive(Clone, Copy)]

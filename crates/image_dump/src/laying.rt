@@ -1,12 +1,12 @@
 ghost use Rattle.std.specs.Prelude.{◌≡◌, ◌≤◌, ℕ, []};
-ghost use Rattle.image_frames.specs.Given.{HasGiven};
+ghost use Rattle.image_pages.specs.Given.{HasGiven};
 ghost use Rattle.image_machine.specs.Filled.{IsFilled};
 ghost use Rattle.image_dump.specs.Lays.{Lays};
 
 use crate::adding::Added;
 use image_check::Report;
-use image_frames::{Frames, Next};
 use image_machine::FilledPlan;
+use image_pages::frames::{Frames, Next};
 use page_core::Page;
 use sector_disk::Disk;
 

@@ -1,5 +1,5 @@
 use fact_lines::Name;
-use sig_header::AreaFault;
+use image_format::AreaFault;
 
 /// The beginning of an info page.
 #[derive(Clone, Copy, Debug, PartialEq, Eq)]

@@ -2,7 +2,7 @@
 ghost use Rattle.std.specs.Prelude.{◌≡◌, ◌+◌, ◌<◌, ◌≤◌, ◌++◌, length, map};
 ghost use Rattle.definitions.specs.Bytes.{bytes_at};
 ghost use Rattle.definitions.specs.InfoPage.{text_of_name};
-ghost use Rattle.sig_header.specs.AreaKind.{area_kind};
+ghost use Rattle.image_format.specs.AreaKind.{area_kind};
 ghost use Rattle.image_facts.specs.HeaderFacts.{area_facts, facts_by_mark, flag_fact, flag_facts, header_facts};
 ghost use Rattle.image_facts.specs.HeaderFacts.{label_facts, mark_facts, swap_facts};
 ghost use Rattle.image_facts.specs.declared.fact.Fact.TheVariants.{BadPage};
@@ -10,8 +10,8 @@ ghost use Rattle.image_facts.specs.declared.fact.Fact.TheVariants.{BadPage};
 use crate::Facts;
 use crate::fact::{Fact, Flag};
 use image_check::mark_in;
+use image_format::{Area, AreaKind, Mark, take_back};
 use page_core::Page;
-use sig_header::{Area, AreaKind, Mark, take_back};
 
 /// The offsets in bytes of the fields that `AreaKind` doesn't have (`union swap_header`, include/linux/swap.h; `struct
 /// swsusp_header`, kernel/power/swap.c).

@@ -9,7 +9,7 @@ ghost use Rattle.image_facts.specs.InfoFacts.{x86_facts};
 use crate::Facts;
 use crate::fact::{Fact, Header};
 use fact_lines::{Name, is_printable};
-use image_header::{Ident, decode};
+use image_format::info::{Ident, decode};
 use page_core::Page;
 
 /// The most bytes of a version text, with its zero byte (`__NEW_UTS_LEN` + 1).

@@ -6,8 +6,8 @@ use Rattle.std.proofs.lemmas.Bool.{ne_eqb}
 use Rattle.std.proofs.lemmas.List.Folds.{list_all-append}
 use Rattle.byteorder.specs.Endian.{big_bytes}
 use Rattle.plain_machine.specs.Replies.{hex_digit, hex_text}
-use Rattle.sig_header.specs.declared.area.AreaFault.{AreaFault}
-use Rattle.sig_header.specs.declared.area.AreaFault.TheVariants as area
+use Rattle.image_format.specs.declared.signature.area.AreaFault.{AreaFault}
+use Rattle.image_format.specs.declared.signature.area.AreaFault.TheVariants as area
 use Rattle.lzo.specs.declared.fault.Kind.{Kind}
 use Rattle.lzo.specs.declared.fault.Kind.TheVariants as kind
 use Rattle.image_walk.specs.declared.visit.BlockFault.{BlockFault}

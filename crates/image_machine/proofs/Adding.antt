@@ -6,7 +6,7 @@ use Rattle.definitions.specs.FrameSets.{inserted}
 use Rattle.definitions.specs.Zones.{numbers, top}
 use Rattle.definitions.specs.ZoneFacts.{AreZones}
 use Rattle.definitions.proofs.ZoneNumbers.{below_top}
-use Rattle.memory_bitmap.specs.FrameSet.{FrameSet, IsFrameSet}
+use Rattle.frame_sets.specs.FrameSet.{FrameSet, IsFrameSet}
 use Rattle.plain_machine.specs.Machine.{Hardware}
 use Rattle.image_machine.specs.Plans.{IsPlan}
 use Rattle.image_machine.specs.declared.plan.Plan.{Plan}

@@ -13,7 +13,7 @@ use Rattle.plain_machine.specs.Machine.{Fits, Hardware, IsHardware, IsOfTable, M
 use Rattle.plain_machine.proofs.EachEntry.{IsPage-each, entry_at-each, frame-each_other, length-each}
 use Rattle.plain_machine.proofs.Fresh.{table_frame-test}
 use Rattle.plain_machine.proofs.SameMemory.{entry-same, of_frame_table, table_frame_valid}
-use Rattle.sig_header.specs.declared.area.Area.{Area}
+use Rattle.image_format.specs.declared.signature.area.Area.{Area}
 use Rattle.image_machine.specs.Machines.{entry_with}
 use Rattle.image_machine.specs.Rows.{is_unsaved}
 use Rattle.image_machine.proofs.Slots.{slots_small, slots_well}

@@ -8,7 +8,7 @@ use Rattle.definitions.specs.FrameSets.{inserted}
 use Rattle.definitions.specs.Zones.{numbers}
 use Rattle.definitions.specs.ZoneFacts.{AreZones}
 use Rattle.definitions.proofs.FrameSets.{Contains-from_inserted, IsStrictlyIncreasing-inserted}
-use Rattle.memory_bitmap.specs.FrameSet.{FrameSet, IsFrameSet}
+use Rattle.frame_sets.specs.FrameSet.{FrameSet, IsFrameSet}
 
 pub no_members : (set : FrameSet) → AreZones set.zones → set.members ≡ [] → IsFrameSet set
 no_members set zones none = record {

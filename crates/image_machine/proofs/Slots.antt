@@ -2,7 +2,7 @@
 use Rattle.std.proofs.Common.{◌≡◌, ℕ, subst, sym, ◌^◌, ◌<◌, ◌&&◌, Bool, true, false, not, cond, refl, ap, ◌∙◌, eqb, arith}
 use Rattle.std.proofs.lemmas.Bool.{eqb-true, false≢true}
 use Rattle.std.specs.Prelude.{Ok}
-use Rattle.sig_header.specs.declared.area.Area.{Area}
+use Rattle.image_format.specs.declared.signature.area.Area.{Area}
 use Rattle.plain_machine.specs.Loader.{has}
 use Rattle.plain_machine.specs.Machine.{Hardware, Memory, Fits, IsHardware, is_slot_entry}
 use Rattle.plain_machine.specs.FreshMemory.{fresh_memory}

@@ -7,7 +7,7 @@ use Rattle.machine.specs.HardFault.{hard_fault}
 use Rattle.plain_machine.specs.FreshMemory.{fresh_memory}
 use Rattle.plain_machine.specs.Loader.{need}
 use Rattle.plain_machine.specs.Machine.{Hardware, unused}
-use Rattle.zones.specs.Faults.{Refuses}
+use Rattle.frame_sets.specs.Faults.{Refuses}
 use Rattle.image_machine.specs.Layouts.{extents_of, frame_row, slot_row, slots_of, zones_of}
 use Rattle.image_machine.specs.Loaders.{hardware_with}
 use Rattle.image_machine.specs.declared.heading.Heading.{Heading}

@@ -2,7 +2,7 @@
 use Rattle.std.specs.Prelude.{◌≡◌, ◌≤◌, length}
 use Rattle.definitions.specs.Slots.{extent_at}
 use Rattle.definitions.specs.Zones.{numbers}
-use Rattle.memory_bitmap.specs.FrameSet.{IsFrameSet}
+use Rattle.frame_sets.specs.FrameSet.{IsFrameSet}
 use Rattle.image_machine.specs.Layouts.{extents_of, zones_of}
 use Rattle.image_machine.specs.declared.heading.Heading.{Heading}
 use Rattle.image_machine.specs.declared.plan.Plan.{Plan}

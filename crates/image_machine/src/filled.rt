@@ -4,17 +4,17 @@ ghost use Rattle.image_machine.specs.Filled.{IsFilled};
 ghost use Rattle.image_machine.specs.Limits.{StopsAtOnce};
 ghost use Rattle.image_machine.specs.Machines.{IsFirstAmiss, IsMachineFor, PassesWith, SavesJust};
 ghost use Rattle.image_machine.specs.declared.limit.Limit.TheVariants as limit;
-ghost use Rattle.memory_bitmap.specs.FrameSet.{IsFrameSet};
+ghost use Rattle.frame_sets.specs.FrameSet.{IsFrameSet};
 
 use crate::heading::{Heading, Layout};
 use crate::in_use::set_in_use;
 use crate::limit::{Limit, Stop};
 use crate::plan::Plan;
 use frame_arena::Frames;
+use frame_sets::Bitmap;
+use frame_table::{View, saveable};
 use machine::{Dump, Hardware, set_slots, tables_fit};
-use memory_bitmap::Bitmap;
 use page_core::Page;
-use saveable::{View, saveable};
 use std::alloc::Global;
 
 /// A plan, and the saved pages in their page frames.

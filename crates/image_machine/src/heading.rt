@@ -1,5 +1,5 @@
 use definitions::Ident;
-use sig_header::Area;
+use image_format::Area;
 
 /// What an image and its swap area say of the machine that was saved.
 #[derive(Clone, Copy)]

@@ -8,9 +8,9 @@ ghost use Rattle.image_machine.specs.Machines.{entry_with};
 use crate::rows::{is_unsaved, table_len};
 use bitflags::Flags;
 use frame_arena::Frames;
+use frame_sets::Bitmap;
+use frame_table::{PageFlags, set_entry};
 use machine::Hardware;
-use memory_bitmap::Bitmap;
-use page_states::{PageFlags, set_entry};
 
 /// The flags of a free page frame, and those of one in use without any flag.
 const FREE: u16 = 1;

@@ -1,9 +1,9 @@
 ghost use Rattle.std.specs.Prelude.{◌≡◌};
 
+use frame_sets::ZoneFault;
 use machine::HardFault;
 use page_core::NoMemory;
 use thiserror::Error;
-use zones::ZoneFault;
 
 /// Why there is no machine.
 #[derive(Clone, Copy, Debug, PartialEq, Eq, Error)]

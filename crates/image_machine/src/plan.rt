@@ -17,19 +17,18 @@ ghost use Rattle.image_machine.specs.Plans.{IsPlan, IsSmall};
 ghost use Rattle.image_machine.specs.declared.heading.Heading.{Heading};
 ghost use Rattle.image_machine.specs.declared.heading.Layout.{Layout};
 ghost use Rattle.image_machine.specs.declared.limit.Limit.TheVariants as limit;
-ghost use Rattle.zones.specs.Faults.{Refuses};
+ghost use Rattle.frame_sets.specs.Faults.{Refuses};
 
 use crate::heading::{Heading, Layout};
 use crate::limit::{Limit, Stop};
 use crate::rows::{lowest_row, table_len};
 use frame_arena::Frames;
+use frame_sets::{Bitmap, ZoneFault, Zones};
+use frame_table::{View, count_free};
+use image_format::Area;
 use machine::{Dump, Hardware, Parts, set_fresh, set_slots};
-use memory_bitmap::Bitmap;
 use page_core::NoMemory;
-use saveable::{View, count_free};
-use sig_header::Area;
 use std::alloc::Global;
-use zones::{ZoneFault, Zones};
 
 /// The most page frames that a machine has.
 const MOST_FRAMES: u64 = 65536;

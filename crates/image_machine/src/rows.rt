@@ -4,8 +4,7 @@ ghost use Rattle.definitions.specs.Zones.{numbers, top};
 ghost use Rattle.plain_machine.specs.Machine.{table_len};
 ghost use Rattle.image_machine.specs.Rows.{is_clear, is_unsaved, lie_apart, lowest_row};
 
-use memory_bitmap::Bitmap;
-use zones::Zones;
+use frame_sets::{Bitmap, Zones};
 
 /// The number of entries of 4 bytes in a page frame.
 const ENTRIES: u32 = 1024;

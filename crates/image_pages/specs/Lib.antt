@@ -6,3 +6,16 @@ pub mod Ends
 pub mod Opens
 pub mod Stands
 pub mod Visited
+pub mod Ahead
+pub mod Formats
+pub mod Found
+pub mod Saved
+pub mod Given
+pub mod Numbered
+pub mod OpensFrames
+pub mod SavedFrames
+pub mod SavedNumbers
+pub mod Says
+pub mod SaysNumber
+pub mod SaysWord
+pub mod Turns

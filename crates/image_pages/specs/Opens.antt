@@ -1,8 +1,8 @@
 -- The results of opening an image.
 use Rattle.std.specs.Prelude.{◌≡◌, ℕ, ◌<◌, ◌≤◌, ◌⊎◌, List, [], ◌∷◌, length, Option, Some, None, Ok}
 use Rattle.definitions.specs.Disk.{Content, HasRisen}
-use Rattle.sig_header.specs.AreaKind.{area_kind}
-use Rattle.sig_header.specs.declared.area.Mark.{Mark}
+use Rattle.image_format.specs.AreaKind.{area_kind}
+use Rattle.image_format.specs.declared.signature.area.Mark.{Mark}
 use Rattle.image_walk.specs.Names.{IsReadFrom}
 use Rattle.image_check.specs.Checked.{mark_in}
 use Rattle.image_check.specs.Header.{header_findings}

@@ -3,10 +3,10 @@ ghost use Rattle.image_pages.specs.Visited.{page_seen};
 
 use crate::accepting::{accept_header, accept_name};
 use image_check::{Counts, Finding, Progress, Report, format_of, limits_of, mark_in};
+use image_format::AreaKind;
 use image_walk::{Visit, Walker};
 use page_core::{Format, NoMemory, Page};
 use sector_disk::Disk;
-use sig_header::AreaKind;
 use std::alloc::Global;
 
 /// The pages of the stream of an image in an area: the info page, the pages of page frame numbers and the data pages,

@@ -6,7 +6,7 @@ use Rattle.definitions.specs.declared.info.Info.{Info}
 use Rattle.definitions.specs.declared.info.Ident.{Ident}
 use Rattle.page_core.specs.declared.format.Format.{Format}
 use Rattle.page_core.specs.declared.format.Format.TheVariants.{Plain, SkipZeros}
-use Rattle.image_header.specs.Counts.{are_bad_counts}
+use Rattle.image_format.specs.Counts.{are_bad_counts}
 use Rattle.plain_machine.specs.Chain.{or_else}
 use Rattle.image_read.specs.Reading.{FitsIn}
 use Rattle.image_read.specs.Faults.{info_fault, identity_fault, size_fault, counts_fault}

@@ -3,7 +3,7 @@ use Rattle.std.proofs.Common.{◌≡◌, ℕ, ◌+◌, ◌-◌, ◌/◌, ◌%◌
 use Rattle.std.proofs.lemmas.Bool.{cases_Bool, cases_lt, cases_eq, cond-true, cond-false, le-ltb, lt-ltb, eq-eqb, ne_eqb}
 use Rattle.definitions.specs.Disk as disk
 use Rattle.definitions.specs.SwapMap.{map_entry, map_link}
-use Rattle.swap_map.specs.MapPages.{NumberedPage}
+use Rattle.image_format.specs.MapPages.{NumberedPage}
 use Rattle.plain_machine.specs.Machine.{Hardware}
 use Rattle.plain_machine.specs.Chain.{is_fault_of, map_block, entry_block, map_fault, or_else}
 use Rattle.plain_machine.specs.Chain.{block_fault as block_cause}

@@ -5,8 +5,8 @@ use Rattle.std.proofs.lemmas.List.Kept.{IsStrictlyIncreasing-filter}
 use Rattle.std.specs.List.{list_any}
 use Rattle.std.specs.List.Sorted.{IsStrictlyIncreasing}
 use Rattle.definitions.specs.Zones.{first_from}
-use Rattle.memory_bitmap.specs.Left.{members_from}
-use Rattle.memory_bitmap.proofs.Left.{first_passing}
+use Rattle.frame_sets.specs.Left.{members_from}
+use Rattle.frame_sets.proofs.Left.{first_passing}
 use Rattle.image_read.specs.Taking.{with_data}
 use Rattle.image_read.proofs.Blocks.{any_of, some_of}
 

@@ -3,7 +3,7 @@ use Rattle.std.proofs.Common.{◌≡◌, ◌≢◌, ℕ, ◌+◌, ◌-◌, ◌/�
 use Rattle.std.proofs.lemmas.Bool.{cases_eq, cond-true, cond-false, eq-eqb, ne_eqb}
 use Rattle.std.specs.List.Sorted.{IsStrictlyIncreasing}
 use Rattle.definitions.specs.Disk as disk
-use Rattle.swap_map.specs.MapPages.{NumberedPage}
+use Rattle.image_format.specs.MapPages.{NumberedPage}
 use Rattle.plain_machine.specs.Machine.{Hardware}
 use Rattle.plain_machine.specs.Chain.{map_block}
 use Rattle.plain_machine.specs.Trace.{first_map, info_in, meta_in, place, place_count, read_cause, data_frames, cause_with}

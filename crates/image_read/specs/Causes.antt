@@ -1,5 +1,5 @@
 -- Causes as replies of a resume, and faults of the parts of an image as causes.
-use Rattle.image_header.specs.declared.BadCounts.{BadCounts}
+use Rattle.image_format.specs.declared.info.BadCounts.{BadCounts}
 use Rattle.pfn_pack.specs.declared.unpack.PfnFault.{PfnFault}
 use Rattle.pfn_pack.specs.declared.unpack.PfnFault.TheVariants as numbers
 use Rattle.plain_machine.specs.declared.reply.Reply.{Reply}

@@ -7,9 +7,9 @@ use Rattle.definitions.specs.SwapMap.{map_entry, map_link}
 use Rattle.definitions.specs.declared.info.Ident.{Ident}
 use Rattle.definitions.specs.declared.info.Info.{Info}
 use Rattle.definitions.specs.declared.info.Field.{Field}
-use Rattle.image_header.specs.Counts.{are_bad_counts}
-use Rattle.swap_map.specs.declared.reader.ChainFault.{ChainFault}
-use Rattle.swap_map.specs.declared.reader.ChainFault.TheVariants as chain
+use Rattle.image_format.specs.Counts.{are_bad_counts}
+use Rattle.image_format.specs.declared.map.reader.ChainFault.{ChainFault}
+use Rattle.image_format.specs.declared.map.reader.ChainFault.TheVariants as chain
 use Rattle.plain_machine.specs.Chain.{is_fault_of, or_else}
 use Rattle.image_read.specs.Reading.{Reading}
 use Rattle.image_read.specs.declared.cause.Cause.{Cause}

@@ -3,7 +3,7 @@ use Rattle.std.specs.Prelude.{◌≡◌, ◌≤◌, ◌<◌, ◌-◌, ℕ, List,
 use Rattle.page_core.specs.declared.format.Format.{Format}
 use Rattle.definitions.specs.declared.info.Info.{Info}
 use Rattle.pfn_pack.specs.Unpacked.{Unpacked, IsUpTo}
-use Rattle.swap_map.specs.MapPages.{NumberedPage}
+use Rattle.image_format.specs.MapPages.{NumberedPage}
 use Rattle.plain_machine.specs.Trace.{place_count}
 
 -- The slots on the blocks of the disk (extents, the last slot, the number of blocks), the format, the number of blocks

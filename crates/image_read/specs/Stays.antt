@@ -1,6 +1,6 @@
 -- What a step of a reader leaves as it was.
 use Rattle.std.specs.Prelude.{◌≡◌, ℕ, List}
-use Rattle.memory_bitmap.specs.FrameSet.{FrameSet}
+use Rattle.frame_sets.specs.FrameSet.{FrameSet}
 use Rattle.image_read.specs.Reading.{Reading}
 
 -- The reader stays over a disk with the same number of blocks, and the sets stay over their zones.

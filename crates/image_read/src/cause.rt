@@ -1,4 +1,4 @@
-use image_header::{BadCounts, Field};
+use image_format::info::{BadCounts, Field};
 use pfn_pack::PfnFault;
 use plain_machine::Reply;
 use thiserror::Error;

@@ -12,15 +12,14 @@ ghost use Rattle.sector_disk.specs.Called.{Called, AtMostOneCall};
 
 use crate::area::Area;
 use crate::cause::Cause;
-use image_header::{Ident, Info, check, counts, decode};
-use memory_bitmap::Bitmap;
+use frame_sets::{Bitmap, Zones};
+use image_format::info::{Ident, Info, check, counts, decode};
+use image_format::{ChainFault, MapReader};
 use page_core::{Format, Page};
 use pfn_pack::Unpack;
 use sector_disk::Disk;
 use std::marker::Model;
-use swap_map::{ChainFault, MapReader};
 use swap_slots::FileMap;
-use zones::Zones;
 
 /// Blocks per map: the map page and its 511 pages.
 const MAP_PLACES: u32 = 512;

@@ -3,8 +3,8 @@ use Rattle.std.proofs.Common.{ℕ, ◌≤◌, List, Bool, Option, Some, None}
 use Rattle.page_core.specs.declared.format.Format.{Format}
 use Rattle.definitions.specs.Disk.{Content}
 use Rattle.definitions.specs.SwapHeader.{taken_back}
-use Rattle.sig_header.specs.AreaKind.{area_kind}
-use Rattle.sig_header.specs.declared.area.Mark.{Mark}
+use Rattle.image_format.specs.AreaKind.{area_kind}
+use Rattle.image_format.specs.declared.signature.area.Mark.{Mark}
 use Rattle.image_walk.specs.declared.limits.Limits.{Limits}
 use Rattle.image_check.specs.Checked.{format_of, mark_in}
 use Rattle.image_check.specs.Header.{limits_of}

@@ -13,9 +13,9 @@ use crate::shown::Shown;
 use crate::{Fault, Form};
 use image_check::{is_compressed, mark_in};
 use image_facts::Fact;
+use image_format::{AreaKind, Mark};
 use page_core::Page;
 use sector_disk::Disk;
-use sig_header::{AreaKind, Mark};
 use std::alloc::Global;
 
 /// Prints what is written in the area whose header lies in block `header`, one fact per line, and, if it has an image

@@ -1,7 +1,7 @@
 //! An image that isn't compressed.
 ghost use Rattle.std.specs.Prelude.{◌≡◌, ◌≤◌, ◌++◌, [], List, true, false, Err, OnOk, OnErr};
 ghost use Rattle.definitions.specs.SwapHeader.{taken_back};
-ghost use Rattle.sig_header.specs.AreaKind.{area_kind};
+ghost use Rattle.image_format.specs.AreaKind.{area_kind};
 ghost use Rattle.image_check.specs.Checked.{format_of};
 ghost use Rattle.image_check.specs.Header.{limits_of};
 ghost use Rattle.image_facts.specs.HeaderFacts.{header_facts};
@@ -17,9 +17,9 @@ use crate::printing::print_header;
 use crate::{Fault, Form};
 use image_check::{format_of, limits_of};
 use image_facts::Reading;
+use image_format::Mark;
 use page_core::{Failed, Format, Page};
 use sector_disk::Disk;
-use sig_header::Mark;
 use std::alloc::Global;
 
 /// Prints what the header block says, and the facts of its image: whose it is, its blocks and its page frames.

@@ -9,7 +9,7 @@ ghost use Rattle.image_show.specs.Texts.{uuid_text};
 use byte_streams::Line;
 use fact_lines::{put_hex_word, put_name, put_numbers, put_text};
 use image_facts::{Fact, Flag, Header};
-use sig_header::AreaFault;
+use image_format::AreaFault;
 
 /// Returns the text of a fact: its key, and its value after a space.
 pub fn text_of(fact: &Fact) -> Line

@@ -15,14 +15,14 @@ use Rattle.image_pages.specs.Ends.{IsRefused}
 use Rattle.image_pages.specs.Stands.{Stands}
 use Rattle.image_pages.specs.declared.pages.Pages.{Pages}
 use Rattle.image_pages.proofs.Reading.{read_given, read_refused}
-use Rattle.image_saved.specs.Ahead.{HasInfo}
-use Rattle.image_saved.specs.Formats.{SavesThere}
-use Rattle.image_saved.specs.Found.{page_at}
-use Rattle.image_saved.proofs.Saving.{saves_of}
-use Rattle.image_frames.specs.Numbered.{HasNumbered}
-use Rattle.image_frames.specs.SavedFrames.{SavedFrame}
-use Rattle.image_frames.specs.Says.{AreAllGiven}
-use Rattle.image_frames.specs.declared.numbers.Numbers.{Numbers}
+use Rattle.image_pages.specs.Ahead.{HasInfo}
+use Rattle.image_pages.specs.Formats.{SavesThere}
+use Rattle.image_pages.specs.Found.{page_at}
+use Rattle.image_pages.proofs.Saving.{saves_of}
+use Rattle.image_pages.specs.Numbered.{HasNumbered}
+use Rattle.image_pages.specs.SavedFrames.{SavedFrame}
+use Rattle.image_pages.specs.Says.{AreAllGiven}
+use Rattle.image_pages.specs.declared.frames.numbers.Numbers.{Numbers}
 use Rattle.image_stream.specs.Converted.{AreAllPieces, ArePieces, HasFrames, HasLists, HasRefusedLists, IsAtLists, IsAtRest, IsFrameFront, IsListFront, WritesFrames, pages_of, pieces_of}
 use Rattle.image_stream.specs.Plain.{plain_info, plain_lists}
 use Rattle.image_stream.specs.Streamed.{IsCutShort, IsFront, IsStreamed, IsWritten}

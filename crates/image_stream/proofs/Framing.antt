@@ -7,11 +7,11 @@ use Rattle.definitions.specs.Disk.{Content}
 use Rattle.definitions.specs.Streams.{TakesAll, TakesFront}
 use Rattle.byte_streams.proofs.Taken.{TakesAll-both, TakesAll-none, TakesFront-second}
 use Rattle.image_check.specs.Info.{counts_in}
-use Rattle.image_frames.specs.Given.{HasGiven, frame_of}
-use Rattle.image_frames.specs.SavedFrames.{AreFirstSaved, SavedFrame}
-use Rattle.image_frames.specs.Says.{IsNextFrame}
-use Rattle.image_frames.specs.declared.frames.Frames.{Frames}
-use Rattle.image_frames.proofs.Giving.{given_size}
+use Rattle.image_pages.specs.Given.{HasGiven, frame_of}
+use Rattle.image_pages.specs.SavedFrames.{AreFirstSaved, SavedFrame}
+use Rattle.image_pages.specs.Says.{IsNextFrame}
+use Rattle.image_pages.specs.declared.frames.frames.Frames.{Frames}
+use Rattle.image_pages.proofs.Giving.{given_size}
 use Rattle.image_stream.specs.Converted.{HasFrames, IsFrameFront, pages_of}
 
 pub first_none : (content : Option Content) (header : ℕ) → AreFirstSaved content header []

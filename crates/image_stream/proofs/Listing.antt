@@ -11,8 +11,8 @@ use Rattle.image_pages.specs.Ends.{IsRefused}
 use Rattle.image_pages.specs.Stands.{Stands}
 use Rattle.image_pages.specs.declared.pages.Pages.{Pages}
 use Rattle.image_pages.proofs.Reading.{read_given}
-use Rattle.image_saved.specs.Ahead.{HasMore}
-use Rattle.image_saved.specs.Found.{page_at}
+use Rattle.image_pages.specs.Ahead.{HasMore}
+use Rattle.image_pages.specs.Found.{page_at}
 use Rattle.image_stream.specs.Converted.{HasLists, HasRefusedLists, IsAtLists, IsListFront}
 use Rattle.image_stream.specs.Plain.{plain_lists, plain_numbers}
 use Rattle.image_stream.proofs.Making.{lists_more}

@@ -14,13 +14,13 @@ use Rattle.image_pages.specs.Chain.{chain_page, AreFirst, IsWholeStream}
 use Rattle.image_pages.specs.Stands.{Stands}
 use Rattle.image_pages.specs.declared.pages.Pages.{Pages}
 use Rattle.image_pages.proofs.Reading.{page_of_first, read_given}
-use Rattle.image_saved.specs.Formats.{SavesThere, chain_format}
-use Rattle.image_saved.specs.Found.{page_at}
-use Rattle.image_saved.specs.Saved.{count_in, page_in}
-use Rattle.image_saved.proofs.Data.{behind_info}
-use Rattle.image_saved.proofs.Saving.{format_there, saves_of}
-use Rattle.image_frames.specs.SavedFrames.{AreFirstSaved, SavedFrame, first_saved, saved_at}
-use Rattle.image_frames.proofs.Ascending.{few_pages}
+use Rattle.image_pages.specs.Formats.{SavesThere, chain_format}
+use Rattle.image_pages.specs.Found.{page_at}
+use Rattle.image_pages.specs.Saved.{count_in, page_in}
+use Rattle.image_pages.proofs.Data.{behind_info}
+use Rattle.image_pages.proofs.Saving.{format_there, saves_of}
+use Rattle.image_pages.specs.SavedFrames.{AreFirstSaved, SavedFrame, first_saved, saved_at}
+use Rattle.image_pages.proofs.Ascending.{few_pages}
 use Rattle.image_stream.specs.Converted.{AreAllPieces, ArePieces, pages_of, pieces_of}
 use Rattle.image_stream.specs.Plain.{plain_info, plain_lists, plain_numbers, plain_stream}
 use Rattle.image_stream.specs.Streamed.{IsBegun, IsStream, chain_stream}

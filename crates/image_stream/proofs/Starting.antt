@@ -3,9 +3,9 @@ use Rattle.std.proofs.Common.{◌≡◌, ℕ, ◌≤◌, List, Option, inl, inr,
 use Rattle.definitions.specs.Disk.{Content, HasRisen}
 use Rattle.image_check.specs.Told.{Told}
 use Rattle.image_pages.proofs.Earlier.{ended_earlier, refused_earlier}
-use Rattle.image_frames.specs.SavedFrames.{SavedFrame}
-use Rattle.image_frames.specs.Says.{AreAllGiven}
-use Rattle.image_saved.proofs.Starting.{bad_earlier}
+use Rattle.image_pages.specs.SavedFrames.{SavedFrame}
+use Rattle.image_pages.specs.Says.{AreAllGiven}
+use Rattle.image_pages.proofs.Starting.{bad_earlier}
 use Rattle.image_stream.specs.Streamed.{IsCutShort, IsStreamed, IsWritten}
 use Rattle.image_stream.specs.declared.streaming.Streamed.{Streamed}
 use Rattle.image_stream.specs.declared.streaming.Streamed.TheVariants.{NoImage, Refused, Whole}

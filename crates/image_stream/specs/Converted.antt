@@ -11,14 +11,14 @@ use Rattle.image_pages.specs.AreRead.{AreRead}
 use Rattle.image_pages.specs.Ends.{IsRefused}
 use Rattle.image_pages.specs.Stands.{Stands}
 use Rattle.image_pages.specs.declared.pages.Pages.{Pages}
-use Rattle.image_saved.specs.Formats.{SavesThere}
-use Rattle.image_saved.specs.Found.{page_at}
-use Rattle.image_frames.specs.Given.{HasGiven}
-use Rattle.image_frames.specs.Numbered.{HasNumbered}
-use Rattle.image_frames.specs.SavedFrames.{AreFirstSaved, SavedFrame}
-use Rattle.image_frames.specs.Says.{AreAllGiven}
-use Rattle.image_frames.specs.declared.frames.Frames.{Frames}
-use Rattle.image_frames.specs.declared.numbers.Numbers.{Numbers}
+use Rattle.image_pages.specs.Formats.{SavesThere}
+use Rattle.image_pages.specs.Found.{page_at}
+use Rattle.image_pages.specs.Given.{HasGiven}
+use Rattle.image_pages.specs.Numbered.{HasNumbered}
+use Rattle.image_pages.specs.SavedFrames.{AreFirstSaved, SavedFrame}
+use Rattle.image_pages.specs.Says.{AreAllGiven}
+use Rattle.image_pages.specs.declared.frames.frames.Frames.{Frames}
+use Rattle.image_pages.specs.declared.frames.numbers.Numbers.{Numbers}
 use Rattle.image_stream.specs.Plain.{plain_info, plain_lists}
 use Rattle.image_stream.specs.declared.streaming.Streamed.{Streamed}
 use Rattle.image_stream.specs.declared.streaming.Streamed.TheVariants.{NoImage, Refused, Whole}

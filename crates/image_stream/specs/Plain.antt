@@ -8,8 +8,8 @@ use Rattle.page_core.specs.declared.format.Format.TheVariants.{Plain, SkipZeros}
 use Rattle.definitions.specs.Bytes.{with_word, word}
 use Rattle.definitions.specs.NumberPages.{meta_of, number_of_word, page_of_words}
 use Rattle.image_check.specs.Info.{counts_in}
-use Rattle.image_saved.specs.Found.{page_at}
-use Rattle.image_saved.specs.Saved.{count_in, page_in}
+use Rattle.image_pages.specs.Found.{page_at}
+use Rattle.image_pages.specs.Saved.{count_in, page_in}
 
 -- how many pages the stream of n page frames has
 abbrev pub plain_pages : ℕ → ℕ

@@ -9,7 +9,7 @@ use Rattle.image_pages.specs.AreRead.{AreRead}
 use Rattle.image_pages.specs.Chain.{IsWholeStream, chain_page}
 use Rattle.image_pages.specs.Ends.{IsEnded, IsRefused}
 use Rattle.image_pages.specs.Opens.{IsBadHeader, IsNoImage}
-use Rattle.image_saved.specs.Formats.{SavesThere, chain_format}
+use Rattle.image_pages.specs.Formats.{SavesThere, chain_format}
 use Rattle.image_stream.specs.Converted.{AreAllPieces, ArePieces}
 use Rattle.image_stream.specs.Plain.{plain_stream}
 use Rattle.image_stream.specs.declared.streaming.Stop.{Stop}

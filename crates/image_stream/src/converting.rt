@@ -2,7 +2,7 @@
 ghost use Rattle.std.specs.Prelude.{◌≡◌, ◌≤◌, ℕ, List, [], Option, IfErr, IfOk, OnErr};
 ghost use Rattle.page_core.specs.declared.format.Format.TheVariants.{SkipZeros};
 ghost use Rattle.definitions.specs.Disk.{HasRisen};
-ghost use Rattle.image_frames.specs.Given.{HasGiven};
+ghost use Rattle.image_pages.specs.Given.{HasGiven};
 ghost use Rattle.image_pages.specs.Stands.{Stands};
 ghost use Rattle.definitions.specs.Streams.{TakesAll};
 ghost use Rattle.image_stream.specs.Plain.{plain_info};
@@ -14,9 +14,8 @@ use crate::plain::{NUMBERS, plain_info, plain_numbers};
 use crate::streaming::{Stop, Streamed};
 use byte_streams::{Sink, put_all};
 use image_check::Report;
-use image_frames::{Frames, Next, Numbers};
-use image_pages::Pages;
-use image_saved::read_page;
+use image_pages::frames::{Frames, Next, Numbers};
+use image_pages::{Pages, read_page};
 use page_core::{Failed, Page};
 use sector_disk::Disk;
 

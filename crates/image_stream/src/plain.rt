@@ -3,7 +3,7 @@ ghost use Rattle.std.specs.Prelude.{◌≡◌, ◌<◌};
 ghost use Rattle.image_check.specs.Info.{counts_in};
 ghost use Rattle.image_stream.specs.Plain.{plain_info, plain_numbers, plain_word};
 
-use image_saved::frame_of;
+use image_pages::frame_of;
 use page_core::{Format, Page};
 
 /// How many numbers a page of page frame numbers has.

@@ -1,12 +1,12 @@
 -- What a marked header block says: its first map, and how many blocks there are.
 use Rattle.std.proofs.Common.{◌≡◌, ℕ, ◌==◌, eqb, Bool, true, false, List, Option, Some, None, cond, nat_lt, sym, ap, refl}
 use Rattle.definitions.specs.SwapHeader.{image_signature, old_signature, area_signature, version_of, last_page_of, bad_count_of, bad_pages_of, image_of, sig_of, first_outside}
-use Rattle.sig_header.specs.AreaKind.{area_kind, area_with, mark_of, same_bytes, version_1_kind}
-use Rattle.sig_header.specs.declared.area.Mark.{Mark}
-use Rattle.sig_header.specs.declared.area.AreaFault.{AreaFault}
-use Rattle.sig_header.specs.declared.area.AreaFault.TheVariants.{Version, BadCount, LastZero}
-use Rattle.sig_header.specs.declared.area.AreaKind.TheVariants as kind
-use Rattle.sig_header.specs.declared.area.AreaKind.{AreaKind}
+use Rattle.image_format.specs.AreaKind.{area_kind, area_with, mark_of, same_bytes, version_1_kind}
+use Rattle.image_format.specs.declared.signature.area.Mark.{Mark}
+use Rattle.image_format.specs.declared.signature.area.AreaFault.{AreaFault}
+use Rattle.image_format.specs.declared.signature.area.AreaFault.TheVariants.{Version, BadCount, LastZero}
+use Rattle.image_format.specs.declared.signature.area.AreaKind.TheVariants as kind
+use Rattle.image_format.specs.declared.signature.area.AreaKind.{AreaKind}
 use Rattle.image_walk.specs.declared.limits.Limits.{Limits}
 use Rattle.image_check.specs.Checked.{mark_in}
 use Rattle.image_check.specs.Header.{any_block, limits_of}

@@ -11,11 +11,11 @@ use crate::chain::{Chain, Read};
 use crate::units::{read_unit, size_of, units_of};
 use crate::{Index, Source, Unit, Walks};
 use image_check::{Finding, Report, counts_in, format_of, is_compressed, limits_of, mark_in};
+use image_format::{AreaKind, SF_NOCOMPRESS_MODE};
 use image_pages::{accept_header, accept_info};
 use overlay_disk::{Lent, Original};
 use page_core::{NoMemory, Page};
 use sector_disk::Disk;
-use sig_header::{AreaKind, SF_NOCOMPRESS_MODE};
 use std::alloc::Global;
 use std::marker::Brand;
 

@@ -9,7 +9,7 @@ use Rattle.definitions.specs.NumberPages.{meta_of}
 use Rattle.definitions.proofs.TableEntries.{with_entries-none}
 use Rattle.definitions.proofs.FreeSlots.{IsStrictlyIncreasing-free_slots, free_slot}
 use Rattle.definitions.proofs.Ascending.{length-between}
-use Rattle.swap_map.specs.MapPages.{MapEntries}
+use Rattle.image_format.specs.MapPages.{MapEntries}
 use Rattle.swap_slots.specs.Runs.{SlotRuns}
 use Rattle.swap_slots.specs.Table.{free_in}
 use Rattle.swap_slots.specs.declared.table.SlotTable.{SlotTable}

@@ -7,7 +7,7 @@ use Rattle.definitions.specs.Slots.{block_of}
 use Rattle.definitions.specs.Tables.{with_entry, with_entries}
 use Rattle.definitions.specs.Zones.{numbers}
 use Rattle.definitions.proofs.TableEntries.{IsPage-with_entry, HasTable-with_entry}
-use Rattle.swap_map.specs.MapPages.{MapEntries}
+use Rattle.image_format.specs.MapPages.{MapEntries}
 use Rattle.swap_slots.specs.Runs.{SlotRuns}
 use Rattle.swap_slots.specs.Table.{Matches, free_in}
 use Rattle.swap_slots.proofs.Matching.{free_numbers}

@@ -6,7 +6,7 @@ use Rattle.definitions.specs.Disk.{Content, Writes, FailsToWrite}
 use Rattle.definitions.specs.declared.info.Info.{Info}
 use Rattle.definitions.specs.NumberPages.{meta_of, marked_numbers}
 use Rattle.definitions.specs.Tables.{entry_at}
-use Rattle.swap_map.specs.MapPages.{MapEntries}
+use Rattle.image_format.specs.MapPages.{MapEntries}
 use Rattle.swap_slots.specs.Table.{free_in}
 use Rattle.swap_slots.specs.declared.table.SlotTable.{SlotTable}
 use Rattle.plain_machine.specs.Image.{maps_of, stream_pages}

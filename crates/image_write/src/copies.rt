@@ -4,7 +4,7 @@ ghost use Rattle.image_write.specs.Copies.{with_data};
 ghost use Rattle.image_write.specs.Kept.{HasPassed};
 ghost use Rattle.pfn_pack.specs.Places.{members_in};
 
-use memory_bitmap::Bitmap;
+use frame_sets::Bitmap;
 
 /// How far the originals and their copies have been read.
 #[derive(Clone, Copy)]

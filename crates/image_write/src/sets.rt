@@ -1,4 +1,4 @@
-use memory_bitmap::Bitmap;
+use frame_sets::Bitmap;
 
 /// The sets of an image's page frames, borrowed from the caller.
 #[derive(Drop)]

@@ -3,8 +3,8 @@ ghost use Rattle.definitions.specs.NumberPages.{meta_of, marked_numbers};
 ghost use Rattle.pfn_pack.specs.Places.{members_in};
 ghost use Rattle.plain_machine.specs.Image.{stream_pages};
 
-use image_header::{Info, encode};
-use memory_bitmap::Bitmap;
+use frame_sets::Bitmap;
+use image_format::info::{Info, encode};
 use page_core::Page;
 use pfn_pack::pack;
 

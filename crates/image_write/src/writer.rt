@@ -18,11 +18,11 @@ use crate::copies::Cursor;
 use crate::sets::Sets;
 use crate::stream::head_page;
 use frame_arena::Frames;
-use image_header::Info;
+use image_format::info::Info;
+use image_format::{MapWriter, Pushed};
 use page_core::{Failed, Page};
 use sector_disk::Disk;
 use std::marker::Model;
-use swap_map::{MapWriter, Pushed};
 use swap_slots::{FileMap, FreeRuns, SlotEntry, SlotTable};
 
 /// A writer of an image to free slots (`struct swap_map_handle`, kernel/power/swap.c). It takes the first map's slot

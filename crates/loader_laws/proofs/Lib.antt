@@ -1,1 +1,17 @@
 pub mod Loading
+pub mod Causes
+pub mod Chains
+pub mod Checked
+pub mod Data
+pub mod DataPages
+pub mod FewNumbers
+pub mod Flags
+pub mod Found
+pub mod Named
+pub mod Numbers
+pub mod OnePiece
+pub mod Prepared
+pub mod Resuming
+pub mod Tallies
+pub mod Tracing
+pub mod Whole

@@ -19,8 +19,8 @@ use Rattle.definitions.specs.SwapHeader.{flags_of, hw_sig_of, image_of}
 use Rattle.definitions.specs.Zones.{numbers}
 use Rattle.definitions.specs.declared.info.Ident.{Ident}
 use Rattle.definitions.proofs.FileMaps.{block_of-extent}
-use Rattle.sig_header.specs.AreaKind.{area_kind, mark_of}
-use Rattle.sig_header.specs.declared.area.Mark.{Mark}
+use Rattle.image_format.specs.AreaKind.{area_kind, mark_of}
+use Rattle.image_format.specs.declared.signature.area.Mark.{Mark}
 use Rattle.machine.specs.declared.dump.Dump.{Dump}
 use Rattle.plain_machine.specs.Chain.{entry_block, header_of}
 use Rattle.plain_machine.specs.Loader.{need}
@@ -32,19 +32,19 @@ use Rattle.image_check.specs.Checked.{Finds, format_of, mark_in}
 use Rattle.image_check.specs.Info.{counts_in}
 use Rattle.image_check.specs.Numbers.{frame_of}
 use Rattle.image_pages.specs.Chain.{chain_page}
-use Rattle.image_saved.specs.Formats.{chain_format, format_marked}
-use Rattle.image_saved.specs.Saved as by_page
+use Rattle.image_pages.specs.Formats.{chain_format, format_marked}
+use Rattle.image_pages.specs.Saved as by_page
 use Rattle.image_machine.specs.Layouts.{extents_or_one, slots_of}
 use Rattle.image_machine.specs.declared.heading.Layout.{Layout}
 use Rattle.image_dump.specs.Headings.{signature_of}
 use Rattle.image_dump.specs.Makes as makes
-use Rattle.check_laws.specs.Resumable.{IsIdentified, IsLoaderOf, IsOnePiece, NamesSlots}
-use Rattle.check_laws.proofs.Causes.{saved_same}
-use Rattle.check_laws.proofs.Flags.{format_same, signature_counts}
-use Rattle.check_laws.proofs.Found.{faultless, marked_as, size_of}
-use Rattle.check_laws.proofs.Numbers.{frame_same}
-use Rattle.check_laws.proofs.OnePiece.{one_piece}
-use Rattle.check_laws.proofs.Resuming.{header_there, whole_is_resumed}
+use Rattle.loader_laws.specs.Resumable.{IsIdentified, IsLoaderOf, IsOnePiece, NamesSlots}
+use Rattle.loader_laws.proofs.Causes.{saved_same}
+use Rattle.loader_laws.proofs.Flags.{format_same, signature_counts}
+use Rattle.loader_laws.proofs.Found.{faultless, marked_as, size_of}
+use Rattle.loader_laws.proofs.Numbers.{frame_same}
+use Rattle.loader_laws.proofs.OnePiece.{one_piece}
+use Rattle.loader_laws.proofs.Resuming.{header_there, whole_is_resumed}
 use Rattle.loader_laws.specs.Loaded.{LoaderOfOnePieceResumes, LoaderResumes}
 
 -- slot 0 lies on the first block of the first extent

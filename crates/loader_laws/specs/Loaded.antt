@@ -6,7 +6,7 @@ use Rattle.plain_machine.specs.declared.event.IdentCheck.{IdentCheck}
 use Rattle.image_check.specs.Checked.{Finds}
 use Rattle.image_machine.specs.declared.heading.Layout.{Layout}
 use Rattle.image_dump.specs.Makes.{IsLoaderOf}
-use Rattle.check_laws.specs.Resumable.{IsResumed, NamesSlots}
+use Rattle.loader_laws.specs.Resumable.{IsResumed, NamesSlots}
 
 -- If nothing wrong is found in an image, the loader that is made of it resumes it, under the same kernel and under any,
 -- provided that its blocks are those of the loader's slots.

@@ -5,7 +5,7 @@ use Rattle.std.proofs.lemmas.List.{get_or_default, take_min}
 use Rattle.std.specs.List.{range_with_len}
 use Rattle.definitions.proofs.Ascending.{Contains-tail, Contains-cons_cases}
 use Rattle.definitions.proofs.ZoneNumbers.{Contains-range, range-bounds}
-use Rattle.sig_header.specs.declared.area.Area.{Area}
+use Rattle.image_format.specs.declared.signature.area.Area.{Area}
 use Rattle.plain_machine.specs.Loader.{has}
 use Rattle.plain_machine.specs.Machine.{Hardware, Memory, bad_slot, raw_slot_entry}
 use Rattle.plain_machine.specs.UsableArea.{bad_slots_of, has_bad_slots_of}

@@ -11,7 +11,7 @@ use Rattle.definitions.specs.Zones.{top}
 use Rattle.definitions.proofs.TableEntries.{length-with_entry, IsPage-with_entry}
 use Rattle.definitions.proofs.FreeSlots.{free_slot}
 use Rattle.definitions.proofs.ZoneNumbers.{range-bounds}
-use Rattle.sig_header.specs.declared.area.Area.{Area}
+use Rattle.image_format.specs.declared.signature.area.Area.{Area}
 use Rattle.plain_machine.specs.Machine.{Hardware, Memory, IsHardware, IsSameMemory, Fits, frame_entry, raw_slot_entry, slot_entry, is_slot_entry, is_valid, is_well_formed, bad_slot}
 use Rattle.plain_machine.specs.State.{on, Running, Flight, goes_out, comes_in, Held, nothing, sure, maybe}
 use Rattle.plain_machine.specs.Chain.{or_else}

@@ -1,6 +1,6 @@
 -- The slot table of fresh memory.
 use Rattle.std.specs.Prelude.{ℕ, Result, Ok, Err, if◌then◌else◌}
-use Rattle.sig_header.specs.declared.area.Area.{Area}
+use Rattle.image_format.specs.declared.signature.area.Area.{Area}
 use Rattle.plain_machine.specs.Machine.{bad_slot}
 use Rattle.plain_machine.specs.Loader.{has}
 use Rattle.plain_machine.specs.UsableArea.{bad_slots_of}

@@ -2,7 +2,7 @@
 use Rattle.std.specs.Prelude.{◌≡◌, ◌≢◌, ◌<◌, ℕ, List, length, Option, Some, None, Result, Ok, Err, IfOk, Contains}
 use Rattle.definitions.specs.Tables.{owner_of}
 use Rattle.definitions.specs.Zones.{numbers, top}
-use Rattle.sig_header.specs.declared.area.Area.{Area}
+use Rattle.image_format.specs.declared.signature.area.Area.{Area}
 use Rattle.swap_slots.specs.Runs.{SlotRuns}
 use Rattle.swap_slots.specs.Table.{Matches}
 use Rattle.swap_slots.specs.declared.table.SlotTable.{SlotTable}

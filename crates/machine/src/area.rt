@@ -6,8 +6,8 @@ ghost use Rattle.definitions.specs.Slots.{extent_at};
 ghost use Rattle.machine.specs.Usable.{HasKind, Passes};
 
 use crate::Hardware;
+use image_format::{Area, AreaKind};
 use plain_machine::NoSwap;
-use sig_header::{Area, AreaKind};
 
 /// Returns the area of a header block, if the machine can use it on a disk of `blocks` blocks: it is a version 1 area,
 /// each of its slots lies on a block of the disk, and it has the machine's number of slots.

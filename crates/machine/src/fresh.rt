@@ -12,9 +12,9 @@ use crate::Hardware;
 use crate::tables::slot_table;
 use bitflags::Flags;
 use frame_arena::Frames;
-use page_states::{PageFlags, set_entry};
+use frame_table::{PageFlags, set_entry};
+use image_format::Area;
 use plain_machine::NoSwap;
-use sig_header::Area;
 use swap_slots::SlotEntry;
 
 /// The flags of a free page frame, and of one without flags.

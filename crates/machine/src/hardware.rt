@@ -4,10 +4,10 @@ ghost use Rattle.plain_machine.specs.Machine.{IsHardware, IsIdent};
 use crate::parts::{has_regions, has_slots, has_tables};
 use crate::regions::Regions;
 use definitions::Ident;
+use frame_sets::Zones;
 use std::marker::Model;
 use swap_slots::FileMap;
 use thiserror::Error;
-use zones::Zones;
 
 /// What a machine is made of, before it is known to fit together.
 #[derive(Clone, Copy)]

@@ -1,6 +1,6 @@
 use crate::{Flight, Hardware};
+use image_format::Area;
 use plain_machine::{Held, NoSwap};
-use sig_header::Area;
 
 /// A machine without its page frames: its hardware, its swap area or why that can't be used, how many blocks its disk
 /// has, whether an image is on the disk, and its tasks' unfinished operations.

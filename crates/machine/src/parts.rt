@@ -9,7 +9,7 @@ ghost use Rattle.machine.specs.Runs.{LieApart, frames_of};
 use crate::hardware::Parts;
 use crate::regions::MOST_REGIONS;
 use crate::tables::table_len;
-use zones::Zones;
+use frame_sets::Zones;
 
 /// The most slots that a machine may have.
 const MOST_SLOTS: u32 = 131072;

@@ -4,7 +4,7 @@ ghost use Rattle.std.specs.List.{find};
 ghost use Rattle.definitions.specs.Bytes.{IsPage};
 ghost use Rattle.definitions.specs.Tables.{entry_of, page_flags, owner_of, is_saveable};
 ghost use Rattle.definitions.specs.Zones.{numbers, top};
-ghost use Rattle.page_states.specs.Flags.{bits_of};
+ghost use Rattle.frame_table.specs.Flags.{bits_of};
 ghost use Rattle.plain_machine.specs.Loader.{has};
 ghost use Rattle.plain_machine.specs.Machine.{Fits, IsHardware, IsTableFrame, bad_slot, frame_entry};
 ghost use Rattle.plain_machine.specs.Machine.{frame_table_frames, is_slot_entry, is_table_at_fault, is_well_formed};
@@ -18,8 +18,8 @@ use crate::fresh::{ENTRIES, is_bad};
 use crate::tasks::is_valid;
 use bitflags::Flags;
 use frame_arena::Frames;
-use page_states::{PageFlags, entry};
-use sig_header::Area;
+use frame_table::{PageFlags, entry};
+use image_format::Area;
 use swap_slots::{SlotEntry, SlotTable};
 
 /// The highest number of a task. The lowest is 1.

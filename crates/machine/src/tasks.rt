@@ -15,7 +15,7 @@ use crate::tables::are_whole;
 use crate::{Hardware, Machine};
 use bitflags::Flags;
 use frame_arena::Frames;
-use page_states::{PageFlags, entry, set_entry};
+use frame_table::{PageFlags, entry, set_entry};
 use plain_machine::{Reply, TaskOp};
 use swap_slots::FreeRuns;
 

@@ -2,9 +2,9 @@
 use Rattle.std.specs.Prelude.{◌≡◌, ◌≢◌, ℕ, List, [], ◌++◌, codes, decimal, Option, Some, None, Ok, IsNone, IfSome}
 use Rattle.std.specs.Prelude.{◌↔◌}
 use Rattle.definitions.specs.Streams.{IsUsedUp}
-use Rattle.dump_differ.specs.Differences.{AreSame, IsFirst}
-use Rattle.dump_differ.specs.declared.Difference.{Difference}
-use Rattle.dump_differ.specs.declared.Difference.TheVariants.{Hardware, Saveable, Page}
+use Rattle.dump_tools.specs.Differences.{AreSame, IsFirst}
+use Rattle.dump_tools.specs.declared.difference.Difference.{Difference}
+use Rattle.dump_tools.specs.declared.difference.Difference.TheVariants.{Hardware, Saveable, Page}
 use Rattle.dump_file.specs.Dump.{DumpValue, dump_of}
 use Rattle.dump_file.specs.declared.dump.DumpFault.{DumpFault}
 use Rattle.machine.specs.declared.dump.Dump.{Dump}

@@ -2,7 +2,7 @@
 use Rattle.std.specs.Prelude.{◌≡◌}
 use Rattle.dump_file.specs.Dump.{DumpValue}
 use Rattle.dump_file.specs.declared.dump.DumpFault.{DumpFault}
-use Rattle.fresh_dump.specs.KeptSlots.{kept_slot}
+use Rattle.dump_tools.specs.KeptSlots.{kept_slot}
 use Rattle.plain_machine.specs.FreshMemory.{fresh_memory}
 use Rattle.swsusp_cli.specs.Dumps.{IsDump, IsNoDump}
 use Rattle.swsusp_cli.specs.Loads.{written_told}

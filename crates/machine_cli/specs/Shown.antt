@@ -2,7 +2,7 @@
 use Rattle.std.specs.Prelude.{◌≡◌, []}
 use Rattle.dump_file.specs.Dump.{DumpValue}
 use Rattle.dump_file.specs.declared.dump.DumpFault.{DumpFault}
-use Rattle.machine_facts.specs.Texts.{facts_text}
+use Rattle.dump_tools.specs.Texts.{facts_text}
 use Rattle.plain_machine.specs.Machine.{Hardware, Memory}
 use Rattle.command_kit.specs.Told.{RunResult}
 use Rattle.swsusp_cli.specs.Dumps.{IsDump, IsNoDump}

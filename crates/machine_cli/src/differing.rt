@@ -7,7 +7,7 @@ ghost use Rattle.command_kit.specs.View.{sink_view};
 
 use byte_streams::{Line, Sink, Source};
 use command_kit::{Answer, Status};
-use dump_differ::{Difference, first_difference};
+use dump_tools::{Difference, first_difference};
 use std::alloc::Global;
 use swsusp_cli::dump_of_input;
 

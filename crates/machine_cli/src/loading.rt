@@ -7,7 +7,7 @@ ghost use Rattle.command_kit.specs.View.{DiskView};
 
 use byte_streams::{Sink, Source};
 use command_kit::{Status, no_memory};
-use fresh_dump::make_fresh;
+use dump_tools::make_fresh;
 use page_core::NoMemory;
 use std::alloc::Global;
 use swsusp_cli::{dump_of_input, tell_dump};

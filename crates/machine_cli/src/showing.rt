@@ -2,7 +2,7 @@ ghost use Rattle.std.specs.Prelude.{◌≡◌, ◌≢◌, ◌⊎◌, ◌≤◌, 
 ghost use Rattle.definitions.specs.Disk.{HasRisen};
 ghost use Rattle.definitions.specs.Zones.{top};
 ghost use Rattle.machine_cli.specs.Shown.{Shows, facts_told};
-ghost use Rattle.machine_facts.specs.Texts.{facts_text};
+ghost use Rattle.dump_tools.specs.Texts.{facts_text};
 ghost use Rattle.command_kit.specs.Told.{FailsToPrint, IsPrinted, IsTold};
 ghost use Rattle.command_kit.specs.Causes.{HasCause};
 ghost use Rattle.swsusp_cli.specs.Streams.{streams_view};
@@ -10,8 +10,8 @@ ghost use Rattle.command_kit.specs.View.{DiskView, sink_view};
 
 use byte_streams::{Sink, Source};
 use command_kit::{Status, print};
+use dump_tools::show;
 use machine::Dump;
-use machine_facts::show;
 use page_core::Failed;
 use std::alloc::Global;
 use swsusp_cli::dump_of_input;

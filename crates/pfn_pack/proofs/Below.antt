@@ -10,9 +10,9 @@ use Rattle.definitions.specs.Zones.{first_from}
 use Rattle.definitions.proofs.Ascending.{Contains-head, Contains-tail, Contains-cons_cases, Contains-nil, IsStrictlyIncreasing-tail, IsStrictlyIncreasing-cons, IsStrictlyIncreasing-append, head_below, same_members, first_from-some}
 use Rattle.definitions.proofs.FrameSets.{Contains-filter, Contains-from_filter}
 use Rattle.definitions.proofs.ZoneNumbers.{below_top, top_at_most}
-use Rattle.memory_bitmap.specs.FrameSet.{FrameSet, IsFrameSet}
-use Rattle.memory_bitmap.specs.Left.{members_from}
-use Rattle.memory_bitmap.proofs.Left.{all_above}
+use Rattle.frame_sets.specs.FrameSet.{FrameSet, IsFrameSet}
+use Rattle.frame_sets.specs.Left.{members_from}
+use Rattle.frame_sets.proofs.Left.{all_above}
 use Rattle.pfn_pack.specs.Places.{count_below}
 
 -- none, and all

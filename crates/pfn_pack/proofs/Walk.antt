@@ -16,7 +16,7 @@ use Rattle.definitions.proofs.Ascending.{first_from-some}
 use Rattle.definitions.proofs.FrameSets.{Contains-filter, Contains-from_filter}
 use Rattle.definitions.proofs.ZoneNumbers.{zone_of, zones_apart, Contains-range, range-bounds, IsStrictlyIncreasing-range}
 use Rattle.definitions.proofs.ZoneBlocks.{IsBlock, All-blocks, AreApart-blocks, numbers-blocks}
-use Rattle.memory_bitmap.specs.FrameSet.{FrameSet, IsFrameSet}
+use Rattle.frame_sets.specs.FrameSet.{FrameSet, IsFrameSet}
 use Rattle.pfn_pack.specs.Places.{count_below, IsSpan, runs, start, word_of, IsWord}
 use Rattle.pfn_pack.proofs.Below.{count_below-more, count_below-all}
 use Rattle.pfn_pack.proofs.Words.{bits_of, ones_are, span_of}

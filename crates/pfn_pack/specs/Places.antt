@@ -7,7 +7,7 @@ use Rattle.definitions.specs.FrameSets.{blocks}
 use Rattle.definitions.specs.Zones.{zone_at}
 use Rattle.definitions.specs.ZoneFacts.{InZone}
 use Rattle.definitions.specs.NumberPages.{zero_bit}
-use Rattle.memory_bitmap.specs.FrameSet.{FrameSet}
+use Rattle.frame_sets.specs.FrameSet.{FrameSet}
 
 -- how many members lie below a number
 unfoldable pub count_below : List ℕ → ℕ → ℕ

@@ -2,10 +2,10 @@ ghost use Rattle.std.specs.Prelude.{◌≡◌, ◌==◌, ℕ, ◌+◌, ◌-◌, 
 ghost use Rattle.std.specs.List.{list_any};
 ghost use Rattle.definitions.specs.NumberPages.{meta_of, number_page, marked_numbers};
 ghost use Rattle.definitions.specs.FrameSets.{blocks};
-ghost use Rattle.memory_bitmap.specs.FrameSet.{IsFrameSet};
+ghost use Rattle.frame_sets.specs.FrameSet.{IsFrameSet};
 ghost use Rattle.pfn_pack.specs.Places.{members_in, marked_number, count_below, IsSpan, IsWord};
 
-use memory_bitmap::Bitmap;
+use frame_sets::Bitmap;
 use page_core::Page;
 
 /// The numbers of a page.

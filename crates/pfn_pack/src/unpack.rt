@@ -2,11 +2,10 @@ ghost use Rattle.std.specs.Prelude.{◌≡◌, ℕ, ◌+◌, ◌-◌, ◌*◌, �
 ghost use Rattle.std.specs.Prelude.{OnOk, OnErr, IfOk, IsSome, IfSome, Option};
 ghost use Rattle.definitions.specs.Bytes.{word};
 
-use memory_bitmap::Bitmap;
+use frame_sets::{Bitmap, Zones};
 use page_core::{Format, Page};
 use std::marker::Model;
 use thiserror::Error;
-use zones::Zones;
 
 /// The numbers that fill a page.
 const PAGE_NUMBERS: u32 = 512;

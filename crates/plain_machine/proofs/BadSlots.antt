@@ -3,8 +3,8 @@ use Rattle.std.proofs.Common.{◌≡◌, ◌<◌, ◌≤◌, ℕ, Bool, cond, no
 use Rattle.std.specs.List.{Contains, range_with_len, list_all}
 use Rattle.definitions.proofs.Ascending.{Contains-head, Contains-tail}
 use Rattle.definitions.proofs.ZoneNumbers.{range-bounds}
-use Rattle.sig_header.specs.declared.area.AreaKind.{AreaKind}
-use Rattle.sig_header.specs.declared.area.AreaKind.TheVariants.{Image, Old, Other, BadArea, Swap}
+use Rattle.image_format.specs.declared.signature.area.AreaKind.{AreaKind}
+use Rattle.image_format.specs.declared.signature.area.AreaKind.TheVariants.{Image, Old, Other, BadArea, Swap}
 use Rattle.plain_machine.specs.Machine.{Hardware, Memory, raw_slot_entry, bad_slot, image_slot}
 use Rattle.plain_machine.specs.Image.{SlotPages}
 use Rattle.plain_machine.specs.Loader.{has}
@@ -13,7 +13,7 @@ use Rattle.plain_machine.specs.State.{Flight, Running}
 use Rattle.plain_machine.specs.UsableArea.{area_block, area_fault, bad_set_fault, bad_slots_of, dump_area_fault, first_fault}
 use Rattle.plain_machine.specs.declared.no_swap.NoSwap.{NoSwap}
 use Rattle.definitions.specs.Disk as disk
-use Rattle.sig_header.specs.AreaKind.{area_kind}
+use Rattle.image_format.specs.AreaKind.{area_kind}
 use Rattle.plain_machine.specs.declared.no_swap.NoSwap.TheVariants as no_swap
 
 -- the entries are the same

@@ -8,7 +8,7 @@ use Rattle.definitions.specs.Bytes.{bytes_at}
 use Rattle.definitions.specs.SwapHeader.{IsMarked, taken_back, flags_of, hw_sig_of}
 use Rattle.definitions.specs.Tables.{frame, owner_of}
 use Rattle.definitions.specs.Zones.{top}
-use Rattle.sig_header.specs.AreaKind.{area_kind}
+use Rattle.image_format.specs.AreaKind.{area_kind}
 use Rattle.plain_machine.specs.Machine.{Hardware, Memory, block_of_slot, raw_slot_entry, slot_entry, frame_entry}
 use Rattle.plain_machine.specs.Machine.{image_slot, is_slot_of, is_valid, Fits, unused_slots}
 use Rattle.definitions.specs.NumberPages.{meta_of}

@@ -10,7 +10,7 @@ use Rattle.definitions.specs.Disk as disk
 use Rattle.definitions.specs.Zones.{numbers}
 use Rattle.definitions.specs.Tables.{frame, with_entry, with_entries, page_flags}
 use Rattle.definitions.specs.NumberPages.{meta_of}
-use Rattle.sig_header.specs.AreaKind.{area_kind}
+use Rattle.image_format.specs.AreaKind.{area_kind}
 use Rattle.plain_machine.specs.Machine.{Hardware, Memory, frame_entry, is_table_frame, saveable, bad_slot}
 use Rattle.plain_machine.specs.Image.{Image, SlotPages, image_of_memory, n_of, d_of, hibernate_steps, resume_steps}
 use Rattle.plain_machine.specs.Loader.{has, left_free, need, restored}

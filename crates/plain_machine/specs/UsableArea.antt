@@ -6,17 +6,17 @@ use Rattle.std.specs.List.{list_any, list_all, range_with_len}
 use Rattle.std.specs.Cmp.Lexicographic.{pointwise}
 use Rattle.definitions.specs.Disk as disk
 use Rattle.definitions.specs.SwapHeader.{image_signature, sig_of, taken_back, IsMarked}
-use Rattle.sig_header.specs.declared.area.Area.{Area}
-use Rattle.sig_header.specs.declared.area.AreaKind.{AreaKind}
-use Rattle.sig_header.specs.declared.area.AreaKind.TheVariants.{Image, Old, Other, BadArea, Swap}
-use Rattle.sig_header.specs.AreaKind.{area_kind}
+use Rattle.image_format.specs.declared.signature.area.Area.{Area}
+use Rattle.image_format.specs.declared.signature.area.AreaKind.{AreaKind}
+use Rattle.image_format.specs.declared.signature.area.AreaKind.TheVariants.{Image, Old, Other, BadArea, Swap}
+use Rattle.image_format.specs.AreaKind.{area_kind}
 use Rattle.plain_machine.specs.Machine.{Hardware, Memory, block_of_slot, raw_slot_entry, bad_slot}
 use Rattle.plain_machine.specs.Chain.{header_of, blocks_of}
 use Rattle.plain_machine.specs.Loader.{has}
 use Rattle.plain_machine.specs.declared.no_swap.NoSwap.{NoSwap}
 use Rattle.plain_machine.specs.declared.no_swap.NoSwap.TheVariants as no_swap
-use Rattle.sig_header.specs.declared.area.AreaFault.{AreaFault}
-use Rattle.sig_header.specs.declared.area.AreaFault.TheVariants.{Version, BadCount, LastZero, BadEntry}
+use Rattle.image_format.specs.declared.signature.area.AreaFault.{AreaFault}
+use Rattle.image_format.specs.declared.signature.area.AreaFault.TheVariants.{Version, BadCount, LastZero, BadEntry}
 
 -- Why an area can't be used.
 

@@ -1,4 +1,4 @@
-use sig_header::AreaFault;
+use image_format::AreaFault;
 use thiserror::Error;
 
 /// Why a swap area can't be used. The variants are in the order of the tests.

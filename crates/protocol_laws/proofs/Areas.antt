@@ -8,12 +8,12 @@ use Rattle.std.proofs.lemmas.List.FromFn.{length-map-range_with_len, get_or-map-
 use Rattle.definitions.specs.Bytes.{AgreeBut, bytes_at, number_at}
 use Rattle.definitions.specs.SwapHeader.{IsMarked, image_signature, old_signature, area_signature, sig_of, version_of, last_page_of, bad_count_of, bad_pages_of, first_outside}
 use Rattle.definitions.proofs.PageBytes.{bytes_at-same, number_at-same}
-use Rattle.sig_header.specs.AreaKind.{area_kind, area_of, area_with, version_1_kind, mark_of}
-use Rattle.sig_header.specs.declared.area.Area.{Area}
-use Rattle.sig_header.specs.declared.area.Mark.{Mark}
-use Rattle.sig_header.specs.declared.area.AreaFault.TheVariants.{Version, BadCount, LastZero}
-use Rattle.sig_header.specs.declared.area.AreaKind.{AreaKind}
-use Rattle.sig_header.specs.declared.area.AreaKind.TheVariants.{Image, Old, Other, BadArea, Swap}
+use Rattle.image_format.specs.AreaKind.{area_kind, area_of, area_with, version_1_kind, mark_of}
+use Rattle.image_format.specs.declared.signature.area.Area.{Area}
+use Rattle.image_format.specs.declared.signature.area.Mark.{Mark}
+use Rattle.image_format.specs.declared.signature.area.AreaFault.TheVariants.{Version, BadCount, LastZero}
+use Rattle.image_format.specs.declared.signature.area.AreaKind.{AreaKind}
+use Rattle.image_format.specs.declared.signature.area.AreaKind.TheVariants.{Image, Old, Other, BadArea, Swap}
 use Rattle.plain_machine.specs.Stands.{AgreeOnArea}
 
 -- a number of the first 4056 bytes is one of the front

@@ -5,8 +5,8 @@ use Rattle.definitions.specs.Bytes.{AgreeBut}
 use Rattle.definitions.specs.Disk as disk
 use Rattle.definitions.specs.SwapHeader.{IsMarked, taken_back, flags_of, hw_sig_of}
 use Rattle.definitions.proofs.DiskLaws.{IsImage-as_it_reads}
-use Rattle.sig_header.specs.AreaKind.{area_kind}
-use Rattle.sig_header.specs.declared.area.AreaKind.{AreaKind}
+use Rattle.image_format.specs.AreaKind.{area_kind}
+use Rattle.image_format.specs.declared.signature.area.AreaKind.{AreaKind}
 use Rattle.plain_machine.specs.Machine.{Hardware, block_of_slot, unused_slots}
 use Rattle.plain_machine.specs.Chain.{header_of, blocks_of, Marked, Holds}
 use Rattle.plain_machine.specs.Image.{Image, SlotPages, image_of_memory, stream_of}

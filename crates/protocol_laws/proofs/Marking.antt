@@ -12,7 +12,7 @@ use Rattle.definitions.specs.Disk.{block}
 use Rattle.definitions.specs.SwapHeader.{IsMarked, image_signature, sig_of, image_of, flags_of, hw_sig_of, last_page_of, marked, marked_flags, taken_back}
 use Rattle.definitions.proofs.DiskLaws.{IsImage-as_it_reads}
 use Rattle.definitions.proofs.Marks.{length-marked, taken_back-marked}
-use Rattle.sig_header.specs.AreaKind.{area_kind}
+use Rattle.image_format.specs.AreaKind.{area_kind}
 use Rattle.plain_machine.specs.Machine.{Hardware, block_of_slot, slot_entry, unused_slots}
 use Rattle.plain_machine.specs.Chain.{header_of, blocks_of, Holds, chain, map_block, entry_block}
 use Rattle.plain_machine.specs.Image.{Image, stream_of, maps_of, hibernate_steps}

@@ -4,7 +4,7 @@ use Rattle.std.proofs.lemmas.Bool.{false≢true, cond-true, ltb-true, leb-true, 
 use Rattle.std.proofs.lemmas.Option.{none-some, cond_some}
 use Rattle.definitions.specs.Disk as disk
 use Rattle.definitions.proofs.DiskLaws.{IsImage-as_it_reads}
-use Rattle.sig_header.specs.AreaKind.{area_kind}
+use Rattle.image_format.specs.AreaKind.{area_kind}
 use Rattle.plain_machine.specs.Machine.{Hardware, Memory, block_of_slot, slot_entry, tables_fault}
 use Rattle.plain_machine.specs.Chain.{blocks_of, or_else}
 use Rattle.plain_machine.specs.Stands.{IsHeld, IsTaskSlot, FitsArea}

@@ -11,10 +11,10 @@ use Rattle.definitions.proofs.Ascending.{Contains-nil, Contains-cons_cases}
 use Rattle.definitions.proofs.FileMaps.{block_of-injective}
 use Rattle.definitions.proofs.FrameSets.{Contains-from_filter}
 use Rattle.definitions.proofs.ZoneNumbers.{range-bounds, Contains-range, IsStrictlyIncreasing-range}
-use Rattle.sig_header.specs.declared.area.Area.{Area}
-use Rattle.sig_header.specs.declared.area.AreaKind.{AreaKind}
-use Rattle.sig_header.specs.declared.area.AreaKind.TheVariants.{Swap, Image as Marks, Old, Other, BadArea}
-use Rattle.sig_header.specs.AreaKind.{area_kind}
+use Rattle.image_format.specs.declared.signature.area.Area.{Area}
+use Rattle.image_format.specs.declared.signature.area.AreaKind.{AreaKind}
+use Rattle.image_format.specs.declared.signature.area.AreaKind.TheVariants.{Swap, Image as Marks, Old, Other, BadArea}
+use Rattle.image_format.specs.AreaKind.{area_kind}
 use Rattle.plain_machine.specs.UsableArea.{no_swap_at}
 use Rattle.plain_machine.specs.Machine.{Hardware, Memory, IsHardware, Fits, block_of_slot, slot_entry, raw_slot_entry, unused_slots, is_slot_entry, image_slot, bad_slot}
 use Rattle.plain_machine.specs.Chain.{blocks_of}

@@ -14,7 +14,7 @@ use Rattle.definitions.proofs.Ascending.{Contains-head, Contains-tail, Contains-
 use Rattle.definitions.proofs.FrameSets.{Contains-filter}
 use Rattle.definitions.proofs.PageBytes.{length-zero_page}
 use Rattle.definitions.proofs.ZoneNumbers.{below_top, range-bounds}
-use Rattle.sig_header.specs.AreaKind.{area_kind}
+use Rattle.image_format.specs.AreaKind.{area_kind}
 use Rattle.plain_machine.specs.Machine.{Hardware, Memory, IsHardware, Fits, IsTableFrame, IsOfTable, frame_entry, raw_slot_entry, saveable, is_well_formed, is_slot_entry, is_table_at_fault, tables_fault, table_frames, table_len, frame_table_frames, slot_table_frames}
 use Rattle.plain_machine.specs.Image.{Image, image_of_memory}
 use Rattle.plain_machine.specs.Loader.{restored, restored_page, saved_page, page_or, left_free, loader_page, has}

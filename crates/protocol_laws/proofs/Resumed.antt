@@ -8,7 +8,7 @@ use Rattle.definitions.specs.Zones.{numbers}
 use Rattle.definitions.proofs.DiskLaws.{IsImage-as_it_reads}
 use Rattle.definitions.proofs.FrameSets.{Contains-filter}
 use Rattle.definitions.proofs.ZoneNumbers.{below_top}
-use Rattle.sig_header.specs.AreaKind.{area_kind}
+use Rattle.image_format.specs.AreaKind.{area_kind}
 use Rattle.plain_machine.specs.Machine.{Hardware, Memory, IsHardware, Fits, block_of_slot, saveable}
 use Rattle.plain_machine.specs.Chain.{blocks_of, Marked}
 use Rattle.plain_machine.specs.Image.{Image, image_of_memory}

@@ -6,7 +6,7 @@ use Rattle.definitions.specs.Bytes.{zero_page}
 use Rattle.definitions.specs.Disk.{Content, DiskImage, IsContent, IsImage, as_it_reads, block, Syncs}
 use Rattle.definitions.specs.SwapHeader.{IsMarked, sig_of, image_signature, taken_back}
 use Rattle.definitions.proofs.DiskLaws.{length-as_it_reads, block-other, IsImage-after_sync, IsImage-as_it_reads, as_it_reads-settled}
-use Rattle.sig_header.specs.AreaKind.{area_kind}
+use Rattle.image_format.specs.AreaKind.{area_kind}
 use Rattle.plain_machine.specs.Machine.{Hardware, Memory, block_of_slot}
 use Rattle.plain_machine.specs.Chain.{header_of, blocks_of, Marked}
 use Rattle.plain_machine.specs.State.{Running, nothing}

@@ -2,10 +2,10 @@
 use Rattle.std.proofs.Common.{◌≡◌, ℕ, Bool, true, false, cond, List, Option, Some, None, refl, sym, ◌∙◌, nat_lt, nat_eq, eqb}
 use Rattle.std.specs.Cmp.Lexicographic.{pointwise, same_text, other_text}
 use Rattle.definitions.specs.SwapHeader.{IsMarked, sig_of, image_signature, old_signature, area_signature, version_of, last_page_of, bad_count_of, bad_pages_of, first_outside}
-use Rattle.sig_header.specs.AreaKind.{area_kind, version_1_kind, area_with, mark_of}
-use Rattle.sig_header.specs.declared.area.AreaKind.{AreaKind}
-use Rattle.sig_header.specs.declared.area.AreaKind.TheVariants.{Image, Old, Other, BadArea, Swap}
-use Rattle.sig_header.specs.declared.area.Mark.{Mark}
+use Rattle.image_format.specs.AreaKind.{area_kind, version_1_kind, area_with, mark_of}
+use Rattle.image_format.specs.declared.signature.area.AreaKind.{AreaKind}
+use Rattle.image_format.specs.declared.signature.area.AreaKind.TheVariants.{Image, Old, Other, BadArea, Swap}
+use Rattle.image_format.specs.declared.signature.area.Mark.{Mark}
 use Rattle.protocol_laws.specs.Headers.{is_image}
 
 with_not_image : (page : List ℕ) (o : Option ℕ) → is_image (area_with page o) ≡ false

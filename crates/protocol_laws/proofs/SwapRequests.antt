@@ -12,9 +12,9 @@ use Rattle.definitions.proofs.Ascending.{Contains-head, Contains-tail}
 use Rattle.definitions.proofs.PageBytes.{length-zero_page}
 use Rattle.definitions.proofs.TableEntries.{entry_at-with_entry_same, entry_at-with_entry_other, frame-with_entry_other}
 use Rattle.definitions.proofs.ZoneNumbers.{below_top, range-bounds}
-use Rattle.sig_header.specs.AreaKind.{area_kind}
-use Rattle.sig_header.specs.declared.area.AreaKind.{AreaKind}
-use Rattle.sig_header.specs.declared.area.AreaKind.TheVariants.{Image as Marks, Old, Other, BadArea, Swap}
+use Rattle.image_format.specs.AreaKind.{area_kind}
+use Rattle.image_format.specs.declared.signature.area.AreaKind.{AreaKind}
+use Rattle.image_format.specs.declared.signature.area.AreaKind.TheVariants.{Image as Marks, Old, Other, BadArea, Swap}
 use Rattle.image_laws.proofs.NumberWords.{has_from_any}
 use Rattle.plain_machine.specs.Chain.{or_else}
 use Rattle.plain_machine.specs.Machine.{IsTask}

@@ -9,9 +9,9 @@ use Rattle.definitions.specs.Disk as disk
 use Rattle.definitions.proofs.DiskLaws.{as_it_reads-settled, IsImage-after_sync, IsImage-as_it_reads}
 use Rattle.plain_machine.specs.Machine.{Hardware, block_of_slot, unused_slots}
 use Rattle.definitions.specs.SwapHeader.{image_signature, sig_of, taken_back}
-use Rattle.sig_header.specs.AreaKind.{area_kind}
-use Rattle.sig_header.specs.declared.area.AreaKind.{AreaKind}
-use Rattle.sig_header.specs.declared.area.AreaKind.TheVariants.{Image as Marks, Old, Other, BadArea, Swap}
+use Rattle.image_format.specs.AreaKind.{area_kind}
+use Rattle.image_format.specs.declared.signature.area.AreaKind.{AreaKind}
+use Rattle.image_format.specs.declared.signature.area.AreaKind.TheVariants.{Image as Marks, Old, Other, BadArea, Swap}
 use Rattle.plain_machine.specs.Chain.{Marked, header_of, blocks_of}
 use Rattle.plain_machine.specs.UsableArea.{area_fault, area_block, kind_fault, kind_or_fit_fault}
 use Rattle.plain_machine.specs.Image.{Image, stream_of, hibernate_steps}

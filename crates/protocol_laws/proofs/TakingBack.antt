@@ -3,7 +3,7 @@ use Rattle.std.proofs.Common.{◌≡◌, ℕ, ◌+◌, ◌/◌, ◌≤◌, ◌�
 use Rattle.definitions.specs.Disk as disk
 use Rattle.definitions.specs.SwapHeader.{IsMarked, taken_back}
 use Rattle.definitions.proofs.DiskLaws.{IsImage-after_sync, IsImage-as_it_reads}
-use Rattle.sig_header.specs.AreaKind.{area_kind}
+use Rattle.image_format.specs.AreaKind.{area_kind}
 use Rattle.plain_machine.specs.Machine.{Hardware, Memory, block_of_slot}
 use Rattle.plain_machine.specs.Chain.{blocks_of, Marked, Holds}
 use Rattle.plain_machine.specs.Image.{Image}

@@ -9,8 +9,8 @@ use Rattle.definitions.specs.SwapHeader.{IsMarked, image_signature, sig_of, orig
 use Rattle.definitions.proofs.DiskLaws.{length-as_it_reads, IsImage-as_it_reads}
 use Rattle.definitions.proofs.Marks.{length-bytes_at}
 use Rattle.definitions.proofs.PageBytes.{length-with_bytes, get_or-with_bytes_below}
-use Rattle.sig_header.specs.AreaKind.{area_kind}
-use Rattle.sig_header.specs.declared.area.AreaKind.{AreaKind}
+use Rattle.image_format.specs.AreaKind.{area_kind}
+use Rattle.image_format.specs.declared.signature.area.AreaKind.{AreaKind}
 use Rattle.plain_machine.specs.Machine.{Hardware, IsHardware, Fits, block_of_slot}
 use Rattle.plain_machine.specs.Chain.{header_of, blocks_of, Marked}
 use Rattle.plain_machine.specs.Image.{Image}

@@ -1,7 +1,7 @@
 -- What a header block is (union swap_header, include/linux/swap.h).
 use Rattle.std.specs.Prelude.{Bool, true, false}
-use Rattle.sig_header.specs.declared.area.AreaKind.{AreaKind}
-use Rattle.sig_header.specs.declared.area.AreaKind.TheVariants.{Image, Old, Other, BadArea, Swap}
+use Rattle.image_format.specs.declared.signature.area.AreaKind.{AreaKind}
+use Rattle.image_format.specs.declared.signature.area.AreaKind.TheVariants.{Image, Old, Other, BadArea, Swap}
 
 -- whether the header block is that of an image
 abbrev pub is_image : AreaKind → Bool

@@ -13,7 +13,7 @@ use Rattle.image_read.specs.Taking as taking
 use Rattle.image_read.proofs.Places.{at_map, at_page, read_at_map, read_at_page}
 use Rattle.image_read.proofs.Read.{known, saved_is, told_all, told_more}
 use Rattle.image_read.proofs.Rising.{data_frames_are, data_words}
-use Rattle.page_restore.specs.Waiting as waiting
+use Rattle.placement.specs.Waiting as waiting
 use Rattle.restore_laws.specs.DataPages.{listed_frames, listed_marks, data_before, ReadsWithData, WaitsWithData, DataCount, ListedSets, NextPage, NoPage, NoneBefore, AllRead}
 
 -- Which page frames have data pages.

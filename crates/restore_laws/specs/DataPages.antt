@@ -13,7 +13,7 @@ use Rattle.image_laws.specs.Decoding.{IsSayable}
 use Rattle.image_read.specs.Reading.{Reading}
 use Rattle.image_read.specs.Stream.{HasReadPlaces, pages_read, frames_in, marked_in, frame_at, place_block, told}
 use Rattle.image_read.specs.Taking as taking
-use Rattle.page_restore.specs.Waiting as waiting
+use Rattle.placement.specs.Waiting as waiting
 
 -- all page frames that an image lists, and those of them without a data page
 abbrev pub listed_frames : Hardware → disk.DiskImage → List ℕ

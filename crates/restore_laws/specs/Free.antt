@@ -6,7 +6,7 @@ use Rattle.plain_machine.specs.Loader.{left_free, need}
 use Rattle.plain_machine.specs.Trace.{d_in, room_cause}
 use Rattle.plain_machine.specs.declared.event.Loader.{Loader}
 use Rattle.plain_machine.specs.declared.reply.Reply.TheVariants as reply
-use Rattle.safe_pages.specs.Plan.{need_for}
+use Rattle.placement.specs.Plan.{need_for}
 
 -- a resume needs as many page frames as a plan takes
 abbrev pub PlanTells : Type 0

@@ -4,7 +4,7 @@ use Rattle.std.specs.List.Sorted.{IsStrictlyIncreasing}
 use Rattle.definitions.specs.Disk as disk
 use Rattle.definitions.specs.Tables.{frame}
 use Rattle.definitions.specs.Zones.{top}
-use Rattle.page_restore.specs.Waiting.{Awaiting, waiting_pages, restored_page}
+use Rattle.placement.specs.Waiting.{Awaiting, waiting_pages, restored_page}
 use Rattle.plain_machine.specs.Machine.{Hardware, Memory, Fits}
 use Rattle.plain_machine.specs.Loader.{left_free, loader_frame}
 use Rattle.plain_machine.specs.Shows.{WorldView, RunsAs}

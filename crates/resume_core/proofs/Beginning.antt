@@ -6,7 +6,7 @@ use Rattle.std.specs.List.{zip}
 use Rattle.definitions.specs.Disk as disk
 use Rattle.definitions.specs.Tables.{frame}
 use Rattle.definitions.specs.Zones.{top}
-use Rattle.page_restore.specs.Waiting.{waiting_pages}
+use Rattle.placement.specs.Waiting.{waiting_pages}
 use Rattle.plain_machine.specs.Machine.{Hardware, Memory, Fits}
 use Rattle.plain_machine.specs.Loader.{left_free, loader_frame}
 use Rattle.plain_machine.specs.Refusals.{refusal, refused_if}

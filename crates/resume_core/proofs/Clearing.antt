@@ -7,7 +7,7 @@ use Rattle.std.proofs.lemmas.List.Kept.{IsStrictlyIncreasing-filter}
 use Rattle.std.specs.List.{Contains, list_any}
 use Rattle.std.specs.List.Sorted.{IsStrictlyIncreasing}
 use Rattle.definitions.specs.Zones.{first_from, numbers}
-use Rattle.memory_bitmap.specs.FrameSet.{FrameSet, IsFrameSet}
+use Rattle.frame_sets.specs.FrameSet.{FrameSet, IsFrameSet}
 use Rattle.definitions.specs.FrameSets.{removed}
 use Rattle.definitions.proofs.Ascending.{same_members}
 use Rattle.definitions.proofs.FrameSets.{Contains-filter, Contains-from_filter, Contains-removed, Contains-from_removed, IsStrictlyIncreasing-removed}

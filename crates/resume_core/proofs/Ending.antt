@@ -7,13 +7,13 @@ use Rattle.definitions.specs.Disk as disk
 use Rattle.definitions.specs.SwapHeader.{taken_back}
 use Rattle.definitions.specs.Tables.{frame}
 use Rattle.definitions.specs.Zones.{top}
-use Rattle.sig_header.specs.AreaKind.{area_kind}
-use Rattle.sig_header.specs.declared.area.Area.{Area}
-use Rattle.sig_header.specs.declared.area.AreaKind.{AreaKind}
-use Rattle.sig_header.specs.declared.area.AreaKind.TheVariants.{Swap}
+use Rattle.image_format.specs.AreaKind.{area_kind}
+use Rattle.image_format.specs.declared.signature.area.Area.{Area}
+use Rattle.image_format.specs.declared.signature.area.AreaKind.{AreaKind}
+use Rattle.image_format.specs.declared.signature.area.AreaKind.TheVariants.{Swap}
 use Rattle.image_read.specs.Stream.{frames_in, pages_read}
-use Rattle.page_restore.specs.Waiting.{restored_page, waiting_pages}
-use Rattle.page_restore.proofs.WithData.{restored_by_zeros}
+use Rattle.placement.specs.Waiting.{restored_page, waiting_pages}
+use Rattle.placement.proofs.WithData.{restored_by_zeros}
 use Rattle.plain_machine.specs.Machine.{Hardware, Memory, IsHardware, tables_fault}
 use Rattle.plain_machine.specs.Chain.{header_of, blocks_of, Marked}
 use Rattle.plain_machine.specs.State.{off, on, loading, nothing, Load as Resume, Found, not_yet, found_own, found_other}

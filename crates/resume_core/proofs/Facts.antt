@@ -4,7 +4,7 @@ use Rattle.std.proofs.lemmas.Option.{same_Some}
 use Rattle.definitions.proofs.DiskLaws.{length-as_it_reads}
 use Rattle.std.specs.List.{zip}
 use Rattle.definitions.specs.Disk as disk
-use Rattle.page_restore.specs.Waiting.{waiting_pages}
+use Rattle.placement.specs.Waiting.{waiting_pages}
 use Rattle.plain_machine.specs.Machine.{Hardware, Memory}
 use Rattle.plain_machine.specs.Chain.{blocks_of}
 use Rattle.plain_machine.specs.Loader.{left_free, loader_frame}

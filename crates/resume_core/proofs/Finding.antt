@@ -4,10 +4,10 @@ use Rattle.definitions.specs.Disk as disk
 use Rattle.definitions.specs.SwapHeader.{taken_back}
 use Rattle.std.proofs.lemmas.Bool.{false≢true}
 use Rattle.std.proofs.lemmas.Option.{none-some, same_Some}
-use Rattle.sig_header.specs.AreaKind.{mark_of, area_kind}
+use Rattle.image_format.specs.AreaKind.{mark_of, area_kind}
 use Rattle.protocol_laws.proofs.LoadReplies.{a_mark, no_mark, gone_early}
 use Rattle.protocol_laws.proofs.Marking.{area_block-marked}
-use Rattle.sig_header.specs.declared.area.Mark.{Mark}
+use Rattle.image_format.specs.declared.signature.area.Mark.{Mark}
 use Rattle.plain_machine.specs.Machine.{Hardware, Memory}
 use Rattle.plain_machine.specs.Chain.{header_of, Marked}
 use Rattle.plain_machine.specs.State.{off, loading, nothing, sure, other, Load as Resume}

@@ -7,10 +7,10 @@ use Rattle.std.proofs.lemmas.Option.{same_Some, none-some}
 use Rattle.definitions.specs.Bytes.{zero_page}
 use Rattle.definitions.specs.Disk as disk
 use Rattle.definitions.specs.SwapHeader.{sig_of, flags_of, hw_sig_of, image_signature, old_signature, area_signature, version_of, last_page_of, bad_count_of, bad_pages_of, first_outside}
-use Rattle.sig_header.specs.AreaKind.{area_kind, version_1_kind, area_with, mark_of}
-use Rattle.sig_header.specs.declared.area.Mark.{Mark}
-use Rattle.sig_header.specs.declared.area.AreaKind.{AreaKind}
-use Rattle.sig_header.specs.declared.area.AreaKind.TheVariants.{Image, Old, Other}
+use Rattle.image_format.specs.AreaKind.{area_kind, version_1_kind, area_with, mark_of}
+use Rattle.image_format.specs.declared.signature.area.Mark.{Mark}
+use Rattle.image_format.specs.declared.signature.area.AreaKind.{AreaKind}
+use Rattle.image_format.specs.declared.signature.area.AreaKind.TheVariants.{Image, Old, Other}
 use Rattle.plain_machine.specs.Machine.{Hardware, block_of_slot}
 use Rattle.plain_machine.specs.Chain.{header_of, blocks_of, map_fault}
 use Rattle.plain_machine.specs.Trace.{header_cause, taken_back_cause, first_map, is_set}

@@ -8,7 +8,7 @@ use Rattle.image_read.specs.Stream as stream
 use Rattle.image_read.specs.Stream.{pages_read, told, known_pages}
 use Rattle.image_read.specs.declared.reader.ReadStep.{ReadStep}
 use Rattle.image_read.specs.declared.reader.ReadStep.TheVariants as read_step
-use Rattle.page_restore.specs.Waiting.{waiting_pages}
+use Rattle.placement.specs.Waiting.{waiting_pages}
 use Rattle.plain_machine.specs.Machine.{Hardware, Memory}
 use Rattle.plain_machine.specs.Image.{Image, with_data}
 use Rattle.plain_machine.specs.Shows.{loads}
@@ -36,7 +36,7 @@ use Rattle.resume_core.specs.declared.load.Stage.TheVariants as stage
 use Rattle.std.proofs.lemmas.Bool.{cases_lt}
 use Rattle.image_read.proofs.Places.{two_places, some_read, none_read}
 use Rattle.image_read.proofs.Read.{known, saved_is}
-use Rattle.page_restore.specs.Waiting.{Awaiting}
+use Rattle.placement.specs.Waiting.{Awaiting}
 use Rattle.plain_machine.specs.Machine.{IsHardware}
 use Rattle.plain_machine.specs.declared.event.IdentCheck.{IdentCheck}
 use Rattle.resume_core.proofs.Facts.{row_at_load, leads, same_loader, loader_of, told_by}

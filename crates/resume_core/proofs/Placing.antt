@@ -8,7 +8,7 @@ use Rattle.std.proofs.lemmas.Option.{none-some, slice_get-get_or}
 use Rattle.std.specs.List.Sorted.{IsStrictlyIncreasing}
 use Rattle.definitions.specs.Disk as disk
 use Rattle.definitions.specs.Tables.{frame}
-use Rattle.safe_pages.specs.Placed.{sources}
+use Rattle.placement.specs.Placed.{sources}
 use Rattle.image_read.specs.Causes.{reply_of}
 use Rattle.image_read.specs.Reading.{Reading}
 use Rattle.image_read.specs.Taking as taking
@@ -31,7 +31,7 @@ use Rattle.resume_core.specs.declared.load.Stage.{Stage}
 use Rattle.image_read.proofs.Places.{pages_left, at_map, at_page, read_at_map, read_at_page, two_places}
 use Rattle.image_read.proofs.Read.{told_all, saved_is}
 use Rattle.image_read.proofs.Rising.{data_frames_are, data_length}
-use Rattle.page_restore.specs.Waiting.{Awaiting, waiting_pages, with_data}
+use Rattle.placement.specs.Waiting.{Awaiting, waiting_pages, with_data}
 use Rattle.plain_machine.specs.Machine.{Hardware, Memory}
 use Rattle.plain_machine.specs.Chain.{or_else}
 use Rattle.plain_machine.specs.Loader.{left_free}

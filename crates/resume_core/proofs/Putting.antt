@@ -6,7 +6,7 @@ use Rattle.definitions.specs.Bytes.{IsPage, zero_page}
 use Rattle.definitions.specs.Tables.{with_frame}
 use Rattle.definitions.specs.Zones.{top}
 use Rattle.frame_arena.specs.Whole.{whole}
-use Rattle.page_restore.specs.Waiting.{Awaiting, WaitsNext, waiting_pages}
+use Rattle.placement.specs.Waiting.{Awaiting, WaitsNext, waiting_pages}
 use Rattle.plain_machine.specs.Machine.{Memory}
 use Rattle.resume_core.specs.Placing.{PutsPage}
 

@@ -9,7 +9,7 @@ use Rattle.image_read.specs.Stream as stream
 use Rattle.image_laws.specs.ImageBlocks.{Tries}
 use Rattle.plain_machine.specs.Machine.{Hardware, Memory, IsHardware, block_of_slot}
 use Rattle.plain_machine.specs.Chain.{header_of, blocks_of}
-use Rattle.sig_header.specs.AreaKind.{mark_of, area_kind}
+use Rattle.image_format.specs.AreaKind.{mark_of, area_kind}
 use Rattle.plain_machine.specs.UsableArea.{area_block}
 use Rattle.protocol_laws.specs.TraceAt.{reply_past}
 use Rattle.protocol_laws.proofs.TraceAt.{past_more}
@@ -30,7 +30,7 @@ use Rattle.resume_core.specs.Loading.{shown_by, header_at}
 use Rattle.resume_core.specs.Ready.{syncs_back_at}
 use Rattle.resume_core.specs.declared.load.Stage.{Stage}
 use Rattle.resume_core.specs.Row.{Simulates, HasFound, swap_area}
-use Rattle.sig_header.specs.declared.area.Mark.{Mark}
+use Rattle.image_format.specs.declared.signature.area.Mark.{Mark}
 use Rattle.resume_core.specs.declared.load.FoundHeader.{FoundHeader}
 use Rattle.resume_core.specs.declared.load.Load.{Load}
 use Rattle.resume_core.specs.declared.load.Stage.TheVariants as stage

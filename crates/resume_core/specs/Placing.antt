@@ -3,7 +3,7 @@ use Rattle.std.specs.Prelude.{◌≡◌, ◌<◌, ◌≤◌, ◌+◌, ◌++◌, 
 use Rattle.definitions.specs.Disk as disk
 use Rattle.definitions.specs.Tables.{frame}
 use Rattle.definitions.specs.Zones.{top}
-use Rattle.page_restore.specs.Waiting.{Awaiting, waiting_pages}
+use Rattle.placement.specs.Waiting.{Awaiting, waiting_pages}
 use Rattle.plain_machine.specs.Machine.{Memory}
 use Rattle.image_read.specs.Answers.{Reads, Answers, GoesOn}
 use Rattle.image_read.specs.Reading.{Reading, HasReadAll}

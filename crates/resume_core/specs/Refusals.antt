@@ -1,6 +1,6 @@
 -- What ends a resume at a block of the chain.
 use Rattle.std.specs.Prelude.{ℕ, nat_lt, Option, Some, None, unwrap_or, if◌then◌else◌}
-use Rattle.safe_pages.specs.Plan.{need_for}
+use Rattle.placement.specs.Plan.{need_for}
 use Rattle.plain_machine.specs.declared.reply.Reply.{Reply}
 use Rattle.plain_machine.specs.declared.reply.Reply.TheVariants as reply
 use Rattle.image_read.specs.Causes.{reply_of}

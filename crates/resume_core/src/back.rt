@@ -12,12 +12,12 @@ ghost use Rattle.sector_disk.specs.Called.{Called, AtMostOneCall};
 use crate::Load;
 use crate::load::{OpenChain, Stage};
 use frame_arena::Frames;
+use image_format::{Mark, SF_HW_SIG, SF_SKIPS_ZEROS, take_back};
 use image_read::Reader;
 use machine::{Hardware, Machine};
 use page_core::{Failed, Format};
 use plain_machine::{Left, Reply};
 use sector_disk::Disk;
-use sig_header::{Mark, SF_HW_SIG, SF_SKIPS_ZEROS, take_back};
 use std::mem::replace;
 use swap_slots::FreeRuns;
 

@@ -2,7 +2,7 @@ ghost use Rattle.std.specs.Prelude.{◌≡◌, ◌≤◌, ◌<◌, ◌&&◌, ℕ
 ghost use Rattle.definitions.specs.Bytes.{filled_page};
 ghost use Rattle.definitions.specs.Tables.{frame};
 ghost use Rattle.definitions.specs.Zones.{top};
-ghost use Rattle.memory_bitmap.specs.FrameSet.{IsFrameSet};
+ghost use Rattle.frame_sets.specs.FrameSet.{IsFrameSet};
 ghost use Rattle.plain_machine.specs.Machine.{IsHardware, unused};
 ghost use Rattle.plain_machine.specs.Loader.{left_free, loader_frame, is_in_ranges, is_in_regions};
 ghost use Rattle.plain_machine.specs.declared.event.Loader.TheVariants as loader;
@@ -11,11 +11,10 @@ ghost use Rattle.protocol_laws.specs.Rows.{TellsNewFault};
 use crate::Load;
 use crate::load::Stage;
 use frame_arena::Frames;
+use frame_sets::Bitmap;
+use frame_table::{View, count_free, pick};
 use machine::{Hardware, Machine};
-use memory_bitmap::Bitmap;
 use plain_machine::{IdentCheck, Loader, Ranges, Reply};
-use prealloc::pick;
-use saveable::{View, count_free};
 
 /// The value of each byte that a scripted loader fills memory with (own).
 const FILL: u8 = 165;

@@ -2,8 +2,8 @@ ghost use Rattle.std.specs.Prelude.{◌≡◌, false, length, Some, None, IfOk, 
 ghost use Rattle.definitions.specs.Disk.{DiskImage};
 ghost use Rattle.definitions.specs.SwapHeader.{taken_back};
 ghost use Rattle.definitions.specs.Zones.{top};
-ghost use Rattle.sig_header.specs.AreaKind.{area_kind};
-ghost use Rattle.sig_header.specs.declared.area.AreaKind.TheVariants.{Swap};
+ghost use Rattle.image_format.specs.AreaKind.{area_kind};
+ghost use Rattle.image_format.specs.declared.signature.area.AreaKind.TheVariants.{Swap};
 ghost use Rattle.plain_machine.specs.Chain.{header_of, blocks_of, Marked};
 ghost use Rattle.plain_machine.specs.Trace.{tables_cause};
 ghost use Rattle.plain_machine.specs.UsableArea.{fit_fault};
@@ -14,12 +14,12 @@ ghost use Rattle.protocol_laws.specs.Rows.{TellsNewFault, is_idle};
 use crate::Load;
 use crate::load::Stage;
 use frame_arena::Frames;
+use image_format::{Area, AreaKind, take_back};
 use machine::{
     Flight, Hardware, Machine, are_whole, has_bad_slots, slot_table, tables_fit, usable,
 };
 use page_core::Page;
 use plain_machine::{Held, Loader, Reply};
-use sig_header::{Area, AreaKind, take_back};
 use swap_slots::FreeRuns;
 
 // The end of a resume (swsusp_arch_resume; hibernation_restore, kernel/power/hibernate.c).

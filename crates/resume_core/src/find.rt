@@ -1,5 +1,5 @@
 ghost use Rattle.std.specs.Prelude.{◌≡◌, ◌<◌, false, None, Some, IfOk, IfErr};
-ghost use Rattle.sig_header.specs.AreaKind.{area_kind, mark_of};
+ghost use Rattle.image_format.specs.AreaKind.{area_kind, mark_of};
 ghost use Rattle.plain_machine.specs.Shows.{rests};
 ghost use Rattle.plain_machine.specs.declared.event.Loader.{Loader};
 ghost use Rattle.resume_core.specs.Header.{header_fault, mark_in};
@@ -11,11 +11,11 @@ ghost use Rattle.sector_disk.specs.Called.{Called, AtMostOneCall};
 use crate::Load;
 use crate::load::{FoundHeader, Stage};
 use frame_arena::Frames;
+use image_format::{AreaKind, Mark, SF_NOCOMPRESS_MODE};
 use machine::Machine;
 use page_core::{Failed, Page};
 use plain_machine::{Left, Reply};
 use sector_disk::Disk;
-use sig_header::{AreaKind, Mark, SF_NOCOMPRESS_MODE};
 use swap_slots::FreeRuns;
 
 // The sync, and the read of the header block (swsusp_check, kernel/power/swap.c).

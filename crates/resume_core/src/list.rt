@@ -1,7 +1,7 @@
 ghost use Rattle.std.specs.Prelude.{◌≡◌, ◌≤◌, ◌<◌, ◌+◌, ◌^◌, false, true, length, Some, None, IsSome, IfErr, OnOk};
 ghost use Rattle.std.specs.Option.{option_copied};
 ghost use Rattle.image_read.specs.Answers.{Compares};
-ghost use Rattle.page_restore.specs.Waiting.{with_data};
+ghost use Rattle.placement.specs.Waiting.{with_data};
 ghost use Rattle.plain_machine.specs.Shows.{rests};
 ghost use Rattle.protocol_laws.specs.Rows.{TellsNewFault, is_idle};
 ghost use Rattle.sector_disk.specs.Called.{Called, AtMostOneCall};

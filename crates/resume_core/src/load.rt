@@ -5,14 +5,14 @@ ghost use Rattle.resume_core.specs.Loading.{IsIdle};
 ghost use Rattle.sector_disk.specs.Called.{Called, AtMostOneCall};
 
 use frame_arena::Frames;
+use frame_sets::Bitmap;
+use image_format::Mark;
 use image_read::Reader;
 use machine::{Hardware, Machine};
-use memory_bitmap::Bitmap;
 use page_core::{NoMemory, Page};
-use page_restore::Waiting;
+use placement::Waiting;
 use plain_machine::{IdentCheck, Loader, Reply};
 use sector_disk::Disk;
-use sig_header::Mark;
 use std::alloc::Global;
 use swap_slots::FreeRuns;
 

@@ -11,7 +11,7 @@ use frame_arena::Frames;
 use image_read::ReadStep;
 use machine::Machine;
 use page_core::Page;
-use page_restore::Waiting;
+use placement::Waiting;
 use plain_machine::{Left, Reply};
 use sector_disk::Disk;
 use swap_slots::FreeRuns;

@@ -7,8 +7,8 @@ ghost use Rattle.script.specs.Items.{AreFitting, IsFittingSetting, IsZoneLine};
 
 use crate::grammar::Setting;
 use crate::ident::scripted_ident;
+use image_format::MOST_BADPAGES;
 use machine::{Hardware, Parts};
-use sig_header::MOST_BADPAGES;
 use std::alloc::{AllocError, Global};
 use std::marker::Model;
 

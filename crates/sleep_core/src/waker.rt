@@ -8,11 +8,11 @@ ghost use Rattle.sleep_core.specs.Waking.{is_over, is_last, IsReplyAt, waking_st
 ghost use Rattle.sleep_core.specs.Row.{SimulatesWhereTold, IsBegun};
 ghost use Rattle.sector_disk.specs.Called.{Called, OneCall};
 
+use image_format::{AreaKind, take_back};
 use machine::Machine;
 use page_core::{Failed, Page};
 use plain_machine::{Left, Reply};
 use sector_disk::Disk;
-use sig_header::{AreaKind, take_back};
 
 /// The number of steps of a waking: a read, a write and a sync.
 const STEPS: u32 = 3;

@@ -10,7 +10,7 @@ use Rattle.definitions.specs.Tables.{entry_at, page_flags, is_saveable, frame}
 use Rattle.definitions.specs.Tables.{saveable_frames, free_frames}
 use Rattle.definitions.proofs.ZoneLists.{Contains-from_saveable_frames, Contains-from_free_frames}
 use Rattle.definitions.proofs.ZoneNumbers.{below_top}
-use Rattle.atomic_copy.specs.Copies.{AreCopied, AreDisjoint}
+use Rattle.snapshot.specs.Copies.{AreCopied, AreDisjoint}
 
 pub Contains-from_take : (n : ℕ) (xs : List ℕ) (x : ℕ) → Contains (take n xs) x → Contains xs x
 Contains-from_take n xs x in' =

@@ -1,2 +1,3 @@
 mod Copying
 mod Few
+pub mod Progress

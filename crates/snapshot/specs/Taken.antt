@@ -4,10 +4,10 @@ use Rattle.std.specs.Prelude.{◌≡◌, ◌<◌, ℕ, Bool, List, [], All, filt
 use Rattle.std.specs.Cmp.Lexicographic.{pointwise}
 use Rattle.page_core.specs.declared.format.Format.{Format}
 use Rattle.page_core.specs.declared.format.Format.TheVariants.{Plain, SkipZeros}
-use Rattle.atomic_copy.specs.Copies.{AreDisjoint}
+use Rattle.snapshot.specs.Copies.{AreDisjoint}
 use Rattle.definitions.specs.Bytes.{zero_page}
 use Rattle.definitions.specs.Tables.{frame}
-use Rattle.memory_bitmap.specs.FrameSet.{FrameSet, IsFrameSet}
+use Rattle.frame_sets.specs.FrameSet.{FrameSet, IsFrameSet}
 
 pub record Taken : Type 0 where
   pub zones : List (ℕ × ℕ)

@@ -2,6 +2,8 @@
 //! kernel/power/hibernate.c, and swsusp_save, kernel/power/snapshot.c).
 #![tactic(auto)]
 
+mod atomic_copy;
+
 ghost use Rattle.std.specs.Prelude.{◌≡◌, ℕ, ◌+◌, ◌-◌, ◌<◌, ◌≤◌, ◌↔◌, [], All, Contains, IsOk, IsErr, IsSome, IfOk};
 ghost use Rattle.std.specs.Prelude.{IfErr, IfSome, IfNone, length, map, take};
 ghost use Rattle.definitions.specs.Zones.{top};
@@ -9,15 +11,13 @@ ghost use Rattle.definitions.specs.Tables.{frame, HasTable};
 ghost use Rattle.definitions.specs.Tables.{saveable_frames, free_frames};
 ghost use Rattle.snapshot.specs.Taken.{zero_frames, set_over, AreFrameSets, CanBeWritten};
 
-use atomic_copy::copy_all;
+use crate::atomic_copy::copy_all;
 use frame_arena::Frames;
-use memory_bitmap::Bitmap;
+use frame_sets::{Bitmap, Zones};
+use frame_table::{Short, View, count_free, enough, mark_all, pick};
 use page_core::{Format, NoMemory};
-use prealloc::{Short, enough, pick};
-use saveable::{View, count_free, mark_all};
 use std::alloc::Global;
 use std::marker::Model;
-use zones::Zones;
 
 /// The number of pages of an image: all `n` that it saves, and the `d` of them with a data page.
 #[derive(Clone, Copy)]

@@ -8,7 +8,7 @@ use Rattle.plain_machine.specs.Image.{maps_of}
 use Rattle.plain_machine.specs.Image.{page_of_write, laid_block}
 use Rattle.image_write.specs.Steps.{HasBegun}
 use Rattle.image_write.specs.Writing.{Writing, IsWriting, writes_of}
-use Rattle.stream_check.specs.Grammar.{all_pages}
+use Rattle.stream_in.specs.Grammar.{all_pages}
 use Rattle.stream_in.specs.Putting.{CanBegin, IsAtPage, IsPagePut, HasPut, pages_in}
 use Rattle.stream_in.specs.Holding.{writes_after}
 use Rattle.stream_in.specs.declared.stop.InStop.{InStop}

@@ -8,11 +8,11 @@ use Rattle.std.specs.Cmp.Lexicographic.{pointwise}
 use Rattle.definitions.specs.Bytes.{number_at}
 use Rattle.definitions.proofs.Ascending.{Contains-nil, Contains-cons_cases}
 use Rattle.definitions.specs.SwapHeader.{image_signature, old_signature, area_signature, sig_of, version_of, last_page_of, bad_count_of, bad_pages_of, first_outside}
-use Rattle.sig_header.specs.AreaKind.{area_kind, version_1_kind, area_with, area_of, mark_of}
-use Rattle.sig_header.specs.declared.area.Area.{Area}
-use Rattle.sig_header.specs.declared.area.AreaFault.TheVariants.{Version, BadCount, LastZero}
-use Rattle.sig_header.specs.declared.area.AreaKind.{AreaKind}
-use Rattle.sig_header.specs.declared.area.AreaKind.TheVariants.{Image, Old, Other, BadArea, Swap}
+use Rattle.image_format.specs.AreaKind.{area_kind, version_1_kind, area_with, area_of, mark_of}
+use Rattle.image_format.specs.declared.signature.area.Area.{Area}
+use Rattle.image_format.specs.declared.signature.area.AreaFault.TheVariants.{Version, BadCount, LastZero}
+use Rattle.image_format.specs.declared.signature.area.AreaKind.{AreaKind}
+use Rattle.image_format.specs.declared.signature.area.AreaKind.TheVariants.{Image, Old, Other, BadArea, Swap}
 use Rattle.stream_in.specs.Area.{HasBounds}
 
 no_swap : (a b c : Bool) (x y v z : AreaKind) (area : Area) → (x ≡ Swap area → ⊥) → (y ≡ Swap area → ⊥) → (z ≡ Swap area → ⊥) → cond a x (cond b y (cond c v z)) ≡ Swap area → v ≡ Swap area

@@ -6,7 +6,7 @@ use Rattle.definitions.specs.Disk as disk
 use Rattle.definitions.specs.SwapHeader.{IsMarked, marked, taken_back}
 use Rattle.definitions.proofs.DiskLaws.{IsImage-settled, IsImage-as_it_reads, length-as_it_reads}
 use Rattle.definitions.proofs.Marks.{taken_back-marked}
-use Rattle.sig_header.specs.declared.area.Area.{Area}
+use Rattle.image_format.specs.declared.signature.area.Area.{Area}
 use Rattle.plain_machine.specs.Image.{maps_of}
 use Rattle.plain_machine.specs.Image.{laid_block, laid_write, page_of_write}
 use Rattle.swap_slots.specs.declared.table.SlotTable.{SlotTable}
@@ -14,10 +14,10 @@ use Rattle.image_write.specs.Writing.{Writing, BlocksBelow}
 use Rattle.image_write.proofs.Done.{place_of, block_of_write, place_below}
 use Rattle.protocol_laws.proofs.Areas.{last_of_swap}
 use Rattle.protocol_laws.proofs.Marking.{length-block}
-use Rattle.stream_check.specs.Grammar.{all_pages, is_whole, short_fault, fault}
-use Rattle.stream_check.specs.declared.fault.Kind.TheVariants.{Short}
-use Rattle.stream_check.specs.declared.fault.StreamFault.{StreamFault}
-use Rattle.stream_check.proofs.Steps.{sound_from}
+use Rattle.stream_in.specs.Grammar.{all_pages, is_whole, short_fault, fault}
+use Rattle.stream_in.specs.declared.checking.fault.Kind.TheVariants.{Short}
+use Rattle.stream_in.specs.declared.checking.fault.StreamFault.{StreamFault}
+use Rattle.stream_in.proofs.Steps.{sound_from}
 use Rattle.stream_in.specs.declared.session.StreamIn.{StreamIn}
 use Rattle.stream_in.specs.Holding.{first_blocks, HasComeIn, IsReadyFor, ComesIn}
 use Rattle.stream_in.specs.Marked.{Marks}

@@ -3,8 +3,8 @@ use Rattle.std.proofs.Common.{◌≡◌, ℕ, ◌+◌, ◌≤◌, List, refl, ap
 use Rattle.definitions.specs.InfoPage.{info_of}
 use Rattle.definitions.specs.declared.info.Info.{Info}
 use Rattle.image_write.specs.Writing.{writes_of}
-use Rattle.stream_check.specs.Grammar.{image_pages, all_pages}
-use Rattle.stream_check.proofs.Steps.{counts_from}
+use Rattle.stream_in.specs.Grammar.{image_pages, all_pages}
+use Rattle.stream_in.proofs.Steps.{counts_from}
 use Rattle.stream_in.specs.Putting.{HasCounts}
 
 pub info_pages : (page : List ℕ) → (info_of page).pages ≡ all_pages page

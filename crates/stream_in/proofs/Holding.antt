@@ -15,7 +15,7 @@ use Rattle.definitions.specs.Slots.{block_of}
 use Rattle.definitions.specs.FileMaps.{IsFileMap}
 use Rattle.definitions.specs.SwapHeader.{IsMarked, marked, image_of, flags_of, last_page_of}
 use Rattle.definitions.proofs.Ascending.{Contains-head}
-use Rattle.sig_header.specs.declared.area.Area.{Area}
+use Rattle.image_format.specs.declared.signature.area.Area.{Area}
 use Rattle.plain_machine.specs.Machine.{Hardware, block_of_slot}
 use Rattle.plain_machine.specs.Image.{Image, stream_of, pages_of, maps_of}
 use Rattle.plain_machine.specs.UsableArea.{bad_slots_of}
@@ -26,7 +26,7 @@ use Rattle.protocol_laws.proofs.Laid.{length-stream_of}
 use Rattle.protocol_laws.proofs.Marking.{header_is}
 use Rattle.protocol_laws.proofs.MarkFields.{marked-is_marked, image_of-marked, flags_of-marked, last_page_of-marked}
 use Rattle.image_write.specs.Writing.{BlocksBelow}
-use Rattle.stream_check.specs.Grammar.{all_pages}
+use Rattle.stream_in.specs.Grammar.{all_pages}
 use Rattle.stream_in.specs.Area.{AreUsable}
 use Rattle.stream_in.specs.Holding.{first_blocks, HoldsStream, AreOfImage, HasComeIn}
 use Rattle.stream_in.specs.Holding.{page_at, AreOfMap, ReadAsMade}

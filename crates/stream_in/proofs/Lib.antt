@@ -15,3 +15,8 @@ pub mod ComingIn
 pub mod Moments
 pub mod Trying
 pub mod Ready
+pub mod Steps
+pub mod Told
+pub mod Keeping
+pub mod Bytes
+pub mod Firsts

@@ -11,7 +11,7 @@ use Rattle.definitions.proofs.Ascending.{Contains-cons_cases}
 use Rattle.definitions.proofs.PageBytes.{length-zero_page, get_or-zero_page}
 use Rattle.definitions.proofs.FreeSlots.{Contains-free_slots, free_slot, IsStrictlyIncreasing-free_slots}
 use Rattle.definitions.proofs.TableEntries.{length-with_entries, entry_at-with_entries_same, entry_at-with_entries_other}
-use Rattle.sig_header.specs.declared.area.Area.{Area}
+use Rattle.image_format.specs.declared.signature.area.Area.{Area}
 use Rattle.plain_machine.specs.UsableArea.{bad_slots_of}
 use Rattle.image_write.specs.Writing.{BlocksBelow}
 use Rattle.definitions.specs.FileMaps.{IsFileMap}

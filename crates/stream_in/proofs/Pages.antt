@@ -9,8 +9,8 @@ use Rattle.swap_slots.specs.declared.table.SlotTable.{SlotTable}
 use Rattle.plain_machine.specs.Image.{maps_of}
 use Rattle.plain_machine.specs.Image.{is_map_write, page_of_write}
 use Rattle.image_write.specs.Writing.{Writing}
-use Rattle.stream_check.specs.Grammar.{all_pages, first_fault}
-use Rattle.stream_check.proofs.Steps.{all_pages-append, sound_from}
+use Rattle.stream_in.specs.Grammar.{all_pages, first_fault}
+use Rattle.stream_in.proofs.Steps.{all_pages-append, sound_from}
 use Rattle.stream_in.specs.Putting.{pages_in, pages_written, writes_made}
 use Rattle.stream_in.specs.Session.{IsOutput, IsBegun}
 use Rattle.stream_in.specs.Holding.{ReadAsMade, MakesMore, page_at, AreWritten, WritesOn, writes_after}

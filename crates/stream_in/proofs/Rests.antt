@@ -9,8 +9,8 @@ use Rattle.image_write.specs.declared.write_step.WriteStep.{WriteStep}
 use Rattle.image_write.specs.declared.write_step.WriteStep.TheVariants.{More, Done, Fault}
 use Rattle.swap_slots.specs.declared.table.SlotTable.{SlotTable}
 use Rattle.stream_in.specs.Outside.{KeepsOutside, IsAtRest, PutsAtRest, FailsAtRest, KeepsAtRest, WritesAtRest, StopsAtRest}
-use Rattle.stream_check.specs.Grammar.{image_pages, all_pages}
-use Rattle.stream_check.proofs.Steps.{counts_from}
+use Rattle.stream_in.specs.Grammar.{image_pages, all_pages}
+use Rattle.stream_in.proofs.Steps.{counts_from}
 use Rattle.stream_in.specs.Putting.{CanPut, is_map_next, pages_in, writes_made}
 use Rattle.stream_in.specs.Session.{IsOutput}
 use Rattle.stream_in.specs.Holding.{MakesMore, ReadAsMade}

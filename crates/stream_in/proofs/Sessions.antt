@@ -8,9 +8,9 @@ use Rattle.definitions.proofs.PageBytes.{number_at-same, bytes_at-same}
 use Rattle.plain_machine.specs.Image.{maps_of}
 use Rattle.plain_machine.specs.Image.{page_of_write}
 use Rattle.image_write.specs.Writing.{Writing, BlocksBelow}
-use Rattle.stream_check.specs.Grammar.{image_pages, all_pages, are_counts, first_fault}
-use Rattle.stream_check.proofs.Steps.{IsSound, sound_from, counts_none, all_pages-append, first_fault-early}
-use Rattle.stream_check.specs.declared.fault.StreamFault.{StreamFault}
+use Rattle.stream_in.specs.Grammar.{image_pages, all_pages, are_counts, first_fault}
+use Rattle.stream_in.proofs.Steps.{IsSound, sound_from, counts_none, all_pages-append, first_fault-early}
+use Rattle.stream_in.specs.declared.checking.fault.StreamFault.{StreamFault}
 use Rattle.std.proofs.lemmas.Option.{none-some}
 use Rattle.stream_in.specs.Putting.{CanPut, HasPut, HasTooFew, Suffice}
 use Rattle.stream_in.specs.Holding.{writes_after}

@@ -7,7 +7,7 @@ use Rattle.definitions.specs.Disk.{Content, DiskImage, Sector, IsContent, IsImag
 use Rattle.definitions.specs.SwapHeader.{marked, taken_back}
 use Rattle.definitions.proofs.DiskLaws.{IsImage-as_it_reads, IsImage-after_sync, length-as_it_reads, length-settled, block-same}
 use Rattle.definitions.proofs.Marks.{length-marked}
-use Rattle.sig_header.specs.AreaKind.{area_kind}
+use Rattle.image_format.specs.AreaKind.{area_kind}
 use Rattle.plain_machine.specs.UsableArea.{kind_fault}
 use Rattle.image_laws.proofs.ImageBlocks.{earlier_or_written, same_sector, marked_within, taken_back_within, length-taken_back, sector_of_block, block_of_sectors, long}
 use Rattle.protocol_laws.proofs.Marking.{length-block}

@@ -7,9 +7,9 @@ use Rattle.definitions.specs.SwapHeader.{IsMarked, marked, taken_back}
 use Rattle.definitions.proofs.DiskLaws.{as_it_reads-settled, length-settled, length-as_it_reads, block-other}
 use Rattle.plain_machine.proofs.DiskBlocks.{block-written}
 use Rattle.plain_machine.specs.UsableArea.{kind_fault}
-use Rattle.sig_header.specs.AreaKind.{area_kind}
-use Rattle.sig_header.specs.declared.area.AreaKind.{AreaKind}
-use Rattle.sig_header.specs.declared.area.AreaKind.TheVariants as kind
+use Rattle.image_format.specs.AreaKind.{area_kind}
+use Rattle.image_format.specs.declared.signature.area.AreaKind.{AreaKind}
+use Rattle.image_format.specs.declared.signature.area.AreaKind.TheVariants as kind
 use Rattle.protocol_laws.specs.Headers.{is_image}
 use Rattle.protocol_laws.proofs.Areas.{sig_same}
 use Rattle.protocol_laws.proofs.Signatures.{marked_false}

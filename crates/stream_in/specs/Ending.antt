@@ -3,10 +3,10 @@ use Rattle.std.specs.Prelude.{◌≡◌, ◌↔◌, ℕ, List, Option, Some, Res
 use Rattle.definitions.specs.Disk.{Content, DiskImage, Changes, as_it_reads, block}
 use Rattle.plain_machine.specs.Image.{laid_block}
 use Rattle.plain_machine.specs.UsableArea.{kind_fault}
-use Rattle.sig_header.specs.AreaKind.{area_kind}
-use Rattle.sig_header.specs.declared.area.Area.{Area}
-use Rattle.stream_check.specs.Grammar.{image_pages, short_fault}
-use Rattle.stream_check.specs.declared.fault.StreamFault.{StreamFault}
+use Rattle.image_format.specs.AreaKind.{area_kind}
+use Rattle.image_format.specs.declared.signature.area.Area.{Area}
+use Rattle.stream_in.specs.Grammar.{image_pages, short_fault}
+use Rattle.stream_in.specs.declared.checking.fault.StreamFault.{StreamFault}
 use Rattle.stream_in.specs.Holding.{ComesIn}
 use Rattle.stream_in.specs.Marked.{Marks}
 use Rattle.stream_in.specs.Marking.{LeavesAt}

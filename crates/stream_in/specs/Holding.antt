@@ -6,13 +6,13 @@ use Rattle.page_core.specs.declared.format.Format.TheVariants.{Plain}
 use Rattle.definitions.specs.Bytes.{IsPage, bytes_at}
 use Rattle.definitions.specs.Disk as disk
 use Rattle.definitions.specs.SwapHeader.{image_of, flags_of}
-use Rattle.sig_header.specs.AreaKind.{area_kind}
-use Rattle.sig_header.specs.declared.area.Area.{Area}
-use Rattle.sig_header.specs.declared.area.AreaKind.TheVariants as kind
+use Rattle.image_format.specs.AreaKind.{area_kind}
+use Rattle.image_format.specs.declared.signature.area.Area.{Area}
+use Rattle.image_format.specs.declared.signature.area.AreaKind.TheVariants as kind
 use Rattle.plain_machine.specs.Machine.{Hardware}
 use Rattle.plain_machine.specs.Image.{Image, stream_of, maps_of, laid_write, page_of_write}
 use Rattle.plain_machine.specs.Chain.{header_of, Marked, chain, Holds}
-use Rattle.stream_check.specs.Grammar.{all_pages}
+use Rattle.stream_in.specs.Grammar.{all_pages}
 use Rattle.definitions.specs.Disk.{Content, DiskImage, as_it_reads, block}
 use Rattle.definitions.specs.FileMaps.{IsFileMap}
 

@@ -10,3 +10,6 @@ pub mod Marked
 pub mod Calls
 pub mod Pieces
 pub mod Ending
+pub mod Faults
+pub mod Grammar
+pub mod Taken

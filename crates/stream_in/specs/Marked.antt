@@ -2,7 +2,7 @@
 use Rattle.std.specs.Prelude.{◌≡◌, ◌<◌, ℕ, List, length, None}
 use Rattle.definitions.specs.Disk.{Content, as_it_reads, block, settled, SameOutside}
 use Rattle.definitions.specs.SwapHeader.{marked, taken_back}
-use Rattle.sig_header.specs.AreaKind.{area_kind}
+use Rattle.image_format.specs.AreaKind.{area_kind}
 use Rattle.plain_machine.specs.UsableArea.{kind_fault}
 use Rattle.plain_machine.specs.declared.reply.Left.{Left}
 use Rattle.plain_machine.specs.declared.reply.Left.TheVariants.{Same, Gone, Unsure}

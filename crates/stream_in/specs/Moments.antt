@@ -3,9 +3,9 @@
 use Rattle.std.specs.Prelude.{◌≡◌, ◌⊎◌, ◌<◌, ◌≤◌, ℕ, ◌/◌, List, [], length, None, Contains, slice_index_or}
 use Rattle.definitions.specs.Disk.{Content, DiskImage, IsImage, as_it_reads, block, sector, sector_bytes}
 use Rattle.definitions.specs.SwapHeader.{IsMarked, marked, taken_back}
-use Rattle.sig_header.specs.AreaKind.{area_kind}
+use Rattle.image_format.specs.AreaKind.{area_kind}
 use Rattle.plain_machine.specs.UsableArea.{kind_fault}
-use Rattle.sig_header.specs.declared.area.Area.{Area}
+use Rattle.image_format.specs.declared.signature.area.Area.{Area}
 use Rattle.stream_in.specs.Holding.{HasComeIn, IsReadyFor}
 use Rattle.stream_in.specs.Outside.{IsBlockOf}
 

@@ -2,9 +2,9 @@
 use Rattle.std.specs.Prelude.{◌≡◌, ◌≤◌, ℕ, ◌+◌, ◌-◌, ◌*◌, ◌/◌, ◌++◌, List, length, Option, Some, Result}
 use Rattle.std.specs.Prelude.{Err, OnOk, OnErr}
 use Rattle.definitions.specs.Disk.{Content, DiskImage, Changes}
-use Rattle.sig_header.specs.declared.area.Area.{Area}
-use Rattle.stream_check.specs.Grammar.{first_fault}
-use Rattle.stream_check.specs.declared.fault.StreamFault.{StreamFault}
+use Rattle.image_format.specs.declared.signature.area.Area.{Area}
+use Rattle.stream_in.specs.Grammar.{first_fault}
+use Rattle.stream_in.specs.declared.checking.fault.StreamFault.{StreamFault}
 use Rattle.stream_in.specs.Area.{HasTooFewFor, SufficeFor}
 use Rattle.stream_in.specs.Holding.{AreOfMap, WritesOn, StaysReady}
 use Rattle.stream_in.specs.Moments.{ElapsesOutside, AddsNoHeader}

@@ -13,7 +13,7 @@ use Rattle.stream_in.specs.Holding.{AreOfMap, MakesMore, writes_after}
 use Rattle.stream_in.specs.Outside.{PutsAtRest, FailsAtRest}
 use Rattle.stream_in.specs.declared.stop.InStop.{InStop}
 use Rattle.stream_in.specs.declared.stop.InStop.TheVariants as stop
-use Rattle.stream_check.specs.Grammar.{image_pages, all_pages, are_counts}
+use Rattle.stream_in.specs.Grammar.{image_pages, all_pages, are_counts}
 
 -- whether a map is written next
 abbrev pub is_map_next : WriteStep → Bool

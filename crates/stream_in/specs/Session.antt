@@ -5,9 +5,9 @@ use Rattle.swap_slots.specs.Table.{LiesIn, Matches, free_in}
 use Rattle.swap_slots.specs.declared.table.SlotTable.{SlotTable}
 use Rattle.plain_machine.specs.Image.{laid_block}
 use Rattle.image_write.specs.Writing.{Writing, IsWriting, BlocksBelow}
-use Rattle.stream_check.specs.Grammar.{all_pages}
-use Rattle.stream_check.specs.Taken.{HasTaken}
-use Rattle.sig_header.specs.declared.area.Area.{Area}
+use Rattle.stream_in.specs.Grammar.{all_pages}
+use Rattle.stream_in.specs.Taken.{HasTaken}
+use Rattle.image_format.specs.declared.signature.area.Area.{Area}
 use Rattle.stream_in.specs.Area.{AreUsable}
 use Rattle.stream_in.specs.Holding.{first_blocks}
 use Rattle.stream_in.specs.Holding.{AreOfMap, writes_after}

@@ -1,10 +1,10 @@
 ghost use Rattle.std.specs.Prelude.{◌≡◌, Some, None, MatchResult};
 ghost use Rattle.plain_machine.specs.UsableArea.{kind_fault};
-ghost use Rattle.sig_header.specs.declared.area.AreaKind.TheVariants as area_kind;
+ghost use Rattle.image_format.specs.declared.signature.area.AreaKind.TheVariants as area_kind;
 ghost use Rattle.stream_in.specs.Area.{open_fault};
 
+use image_format::{Area, AreaKind};
 use plain_machine::NoSwap;
-use sig_header::{Area, AreaKind};
 
 /// The most slots that a slot table has.
 pub(crate) const MOST_SLOTS: u32 = 131_072;

@@ -1,7 +1,7 @@
 ghost use Rattle.std.specs.Prelude.{◌≡◌, ◌⊎◌, ℕ, ◌<◌, None, IsTrue, IsErr, IsErrAnd, OnOk, IfOk, IfErr, IfSome};
 ghost use Rattle.definitions.specs.Disk.{Content, DiskImage, as_it_reads, block, Changes, SameOutside, Syncs};
 ghost use Rattle.definitions.specs.SwapHeader.{taken_back};
-ghost use Rattle.sig_header.specs.AreaKind.{area_kind};
+ghost use Rattle.image_format.specs.AreaKind.{area_kind};
 ghost use Rattle.plain_machine.specs.UsableArea.{kind_fault};
 ghost use Rattle.stream_in.specs.Area.{first_block};
 ghost use Rattle.stream_in.specs.Moments.{AddsNoImage, TriesMark, ElapsesAlike, LiesOver, ElapsesTrying};
@@ -15,10 +15,10 @@ ghost use Rattle.stream_in.specs.Stops.{IsDiskStop, IsOfHeader, IfNoSwap};
 
 use crate::InStop;
 use crate::area::version_1;
+use image_format::{AreaKind, SF_NOCOMPRESS_MODE, mark, take_back};
 use page_core::{Failed, Page};
 use plain_machine::Left;
 use sector_disk::Disk;
-use sig_header::{AreaKind, SF_NOCOMPRESS_MODE, mark, take_back};
 
 /// Reads the header block, which counts as zeros on a disk without blocks.
 pub(crate) fn read_header<D: Disk>(disk: &mut D) -> Result<Page, InStop>

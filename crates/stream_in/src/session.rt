@@ -1,29 +1,28 @@
 ghost use Rattle.std.specs.Prelude.{◌≡◌, ◌≤◌, ◌<◌, ℕ, ◌+◌, ◌-◌, ◌*◌, ◌/◌, ◌%◌, ◌++◌, ◌∷◌, List, [], Some};
 ghost use Rattle.std.specs.Prelude.{None, Err, IsSome, IsTrue, IsErrAnd, IfOk, IfErr, IfSome, length, replicate};
 ghost use Rattle.definitions.specs.Disk.{as_it_reads};
-ghost use Rattle.sig_header.specs.AreaKind.{area_kind};
+ghost use Rattle.image_format.specs.AreaKind.{area_kind};
 ghost use Rattle.definitions.specs.Bytes.{zero_page};
 ghost use Rattle.stream_in.specs.Area.{first_block, open_fault, HasBounds};
-ghost use Rattle.sig_header.specs.declared.area.Area.{Area as AreaValue};
-ghost use Rattle.sig_header.specs.declared.area.AreaKind.TheVariants as kind;
+ghost use Rattle.image_format.specs.declared.signature.area.Area.{Area as AreaValue};
+ghost use Rattle.image_format.specs.declared.signature.area.AreaKind.TheVariants as kind;
 ghost use Rattle.definitions.specs.FileMaps.{IsFileMap};
 ghost use Rattle.stream_in.specs.Calls.{HasCalled, AtMost};
 ghost use Rattle.stream_in.specs.Moments.{ElapsesAlike, ElapsesOutside};
 ghost use Rattle.stream_in.specs.Holding.{IsReadyFor};
 ghost use Rattle.image_write.specs.Writing.{Writing};
 
-use crate::InStop;
 use crate::area::{MOST_SLOTS, usable};
 use crate::header::{mark_image, read_header};
 use crate::putting::put_full;
 use crate::slots::{SwapSlots, set_bad};
+use crate::{Checker, InStop};
 use frame_arena::Frames;
+use image_format::{Area, AreaKind};
 use image_write::Writer;
 use page_core::Page;
 use sector_disk::Disk;
-use sig_header::{Area, AreaKind};
 use std::alloc::Global;
-use stream_check::Checker;
 use swap_slots::{FileMap, FreeRuns, SlotTable};
 
 /// The bytes of a page.
@@ -50,7 +49,7 @@ pub struct StreamIn {
 }
 
 impl StreamIn {
-    ghost use Rattle.stream_check.specs.declared.fault.StreamFault.{StreamFault};
+    ghost use Rattle.stream_in.specs.declared.checking.fault.StreamFault.{StreamFault};
     ghost use Rattle.stream_in.specs.Stops.{IsDiskStop, IsOfOpen, IsOfFeed, IsOfFinish, IfNoSwap};
     ghost use Rattle.stream_in.specs.Session.{IsOpened, IsFed, IsGoing, IsSession, TakesInto};
     ghost use Rattle.stream_in.specs.Pieces.{AnswersPiece, WritesPiece, FillsArea, LeavesMoments, StaysOn};

@@ -5,7 +5,7 @@ ghost use Rattle.stream_in.specs.Area.{HasBounds};
 ghost use Rattle.swap_slots.specs.Table.{LiesIn};
 
 use frame_arena::Frames;
-use sig_header::Area;
+use image_format::Area;
 use swap_slots::{FileMap, SlotEntry, SlotTable};
 
 /// The slots of an area: the table that says which are free, and the blocks that they lie on.

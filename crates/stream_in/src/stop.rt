@@ -1,6 +1,6 @@
+use crate::StreamFault;
 use page_core::NoMemory;
 use plain_machine::{Left, NoSwap};
-use stream_check::StreamFault;
 use thiserror::Error;
 
 /// Why an image doesn't come in.

@@ -4,9 +4,9 @@ ghost use Rattle.stream_out.specs.Pages.{info_over, stream_over};
 
 use crate::cursor::{Cursor, hand_out};
 use frame_arena::Frames;
-use image_header::{Info, encode};
+use frame_sets::Bitmap;
+use image_format::info::{Info, encode};
 use machine::Hardware;
-use memory_bitmap::Bitmap;
 use page_core::Page;
 use pfn_pack::pack;
 

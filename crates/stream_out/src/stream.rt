@@ -9,8 +9,8 @@ use crate::cursor::Cursor;
 use crate::pages::{hand_out_data, hand_out_head, head_pages};
 use crate::slots::first_task_slot;
 use frame_arena::Frames;
+use frame_sets::Bitmap;
 use machine::Hardware;
-use memory_bitmap::Bitmap;
 use page_core::Page;
 use std::marker::Model;
 

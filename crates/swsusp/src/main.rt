@@ -1,12 +1,11 @@
 //! `swsusp`: hibernation images in swap areas.
 #![tactic(auto)]
 
-use byte_streams::{StdSink, StdSource};
+use byte_streams::{StdSink, StdSource, hold, is_output, sync_output};
 use command_kit::{Status, print};
 use file_disk::FileDisk;
 use page_core::NoMemory;
 use sector_disk::{Disk, MemDisk};
-use standard_streams::{hold, is_output, sync_output};
 use std::fs::File;
 use std::io::{BufReader, BufWriter, IsTerminal};
 use std::process::ExitCode;

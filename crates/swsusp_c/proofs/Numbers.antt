@@ -6,8 +6,8 @@ use Rattle.std.proofs.lemmas.List.{map-append, take_all}
 use Rattle.std.specs.Prelude.{nat_lt}
 use Rattle.definitions.specs.Disk.{HasRisen, last_count}
 use Rattle.definitions.specs.Streams.{TakesAll}
-use Rattle.sig_header.specs.declared.area.AreaFault.{AreaFault}
-use Rattle.sig_header.specs.declared.area.AreaFault.TheVariants as area
+use Rattle.image_format.specs.declared.signature.area.AreaFault.{AreaFault}
+use Rattle.image_format.specs.declared.signature.area.AreaFault.TheVariants as area
 use Rattle.lzo.specs.declared.fault.Kind.{Kind}
 use Rattle.lzo.specs.declared.fault.Kind.TheVariants as kind
 use Rattle.image_walk.specs.declared.visit.BlockFault.{BlockFault}

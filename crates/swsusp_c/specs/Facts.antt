@@ -1,9 +1,9 @@
 -- What the header block of an area says, in numbers.
 use Rattle.std.specs.Prelude.{ℕ}
-use Rattle.sig_header.specs.declared.area.AreaFault.{AreaFault}
-use Rattle.sig_header.specs.declared.area.AreaFault.TheVariants.{Version, BadCount, LastZero, BadEntry}
-use Rattle.sig_header.specs.declared.area.AreaKind.{AreaKind}
-use Rattle.sig_header.specs.declared.area.AreaKind.TheVariants.{Image, Old, Other, BadArea, Swap}
+use Rattle.image_format.specs.declared.signature.area.AreaFault.{AreaFault}
+use Rattle.image_format.specs.declared.signature.area.AreaFault.TheVariants.{Version, BadCount, LastZero, BadEntry}
+use Rattle.image_format.specs.declared.signature.area.AreaKind.{AreaKind}
+use Rattle.image_format.specs.declared.signature.area.AreaKind.TheVariants.{Image, Old, Other, BadArea, Swap}
 use Rattle.swsusp_c.specs.declared.inspect.SwsuspHeader.{SwsuspHeader}
 
 abbrev pub fault_of : AreaFault → ℕ × ℕ

@@ -1,8 +1,8 @@
 -- The numbers of a finding, by their names in include/swsusp.h.
 use Rattle.std.specs.Prelude.{◌≡◌, ℕ, ◌==◌, ◌-◌, ◌≤◌, List, length, map, min, take, nat_lt, Some, if◌then◌else◌}
 use Rattle.definitions.specs.Disk.{last_count}
-use Rattle.sig_header.specs.declared.area.AreaFault.{AreaFault}
-use Rattle.sig_header.specs.declared.area.AreaFault.TheVariants as area
+use Rattle.image_format.specs.declared.signature.area.AreaFault.{AreaFault}
+use Rattle.image_format.specs.declared.signature.area.AreaFault.TheVariants as area
 use Rattle.lzo.specs.declared.fault.Kind.{Kind}
 use Rattle.lzo.specs.declared.fault.Kind.TheVariants as kind
 use Rattle.image_walk.specs.declared.visit.BlockFault.{BlockFault}

@@ -2,7 +2,7 @@
 use Rattle.std.specs.Prelude.{ℕ, ◌==◌, Option, Some, None, if◌then◌else◌}
 use Rattle.boot_resume.specs.Ends.{IsEnd}
 use Rattle.boot_resume.specs.declared.resume.Resume.{Resume}
-use Rattle.sig_header.specs.declared.area.Mark.{Mark}
+use Rattle.image_format.specs.declared.signature.area.Mark.{Mark}
 use Rattle.swsusp_c.specs.Calls.{call_code}
 use Rattle.swsusp_c.specs.Stages.{stage_code}
 use Rattle.swsusp_c.specs.declared.state.SwsuspResume.{SwsuspResume}

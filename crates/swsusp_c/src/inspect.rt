@@ -1,12 +1,12 @@
 //! The function that C calls to read the header block of an area.
 ghost use Rattle.std.specs.Prelude.{◌≡◌, ◌≢◌, ℕ};
-ghost use Rattle.sig_header.specs.AreaKind.{area_kind};
+ghost use Rattle.image_format.specs.AreaKind.{area_kind};
 ghost use Rattle.swsusp_c.specs.Codes.{page_code};
 ghost use Rattle.swsusp_c.specs.Facts.{facts_of, fault_of};
 
 use crate::codes::{BAD_PAGE, OK};
+use image_format::{AreaFault, AreaKind};
 use page_core::Page;
-use sig_header::{AreaFault, AreaKind};
 
 /// What a header block says (`struct swsusp_header`). Numbers that a kind doesn't name are 0.
 #[repr(C)]

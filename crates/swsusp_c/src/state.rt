@@ -7,8 +7,8 @@ ghost use Rattle.boot_resume.specs.declared.resume.Resume.{Resume};
 use crate::calls::{SwsuspCall, call_code, live_call};
 use crate::stages::{stage_code, stage_of};
 use boot_resume::{Move, Reading, Resume};
+use image_format::Mark;
 use page_core::Page;
-use sig_header::Mark;
 
 /// A resume (`struct swsusp_resume`): the fields of `Resume`, none of which a caller in C reads.
 #[repr(C)]

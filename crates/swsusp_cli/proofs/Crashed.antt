@@ -4,7 +4,7 @@ use Rattle.std.specs.Option.{IfSome, IsSome}
 use Rattle.definitions.specs.Disk.{Changes, Content, DiskImage, as_it_reads, block}
 use Rattle.definitions.specs.Streams.{HandsOut, IsUsedUp}
 use Rattle.definitions.specs.SwapHeader.{IsMarked}
-use Rattle.sig_header.specs.declared.area.Area.{Area}
+use Rattle.image_format.specs.declared.signature.area.Area.{Area}
 use Rattle.stream_in.specs.Holding.{HasComeIn, IsReadyFor, StaysReady}
 use Rattle.stream_in.specs.Moments.{AddsNoHeader, ElapsesAlike, ElapsesOverMark, MarksWhole}
 use Rattle.stream_in.specs.Session.{TakesInto}

@@ -4,15 +4,15 @@ use Rattle.std.proofs.lemmas.Bool.{cases_lt}
 use Rattle.std.proofs.lemmas.List.{take_all}
 use Rattle.definitions.specs.Disk.{Content, Changes, HasRisen}
 use Rattle.definitions.specs.Streams.{HandsOut}
-use Rattle.stream_check.specs.Grammar.{first_fault}
-use Rattle.stream_check.proofs.Steps.{sound_from}
+use Rattle.stream_in.specs.Grammar.{first_fault}
+use Rattle.stream_in.proofs.Steps.{sound_from}
 use Rattle.stream_in.specs.Outside.{StopsAtRest, WritesAtRest}
 use Rattle.stream_in.specs.Area.{HasTooFewFor, SufficeFor}
 use Rattle.stream_in.specs.Stops.{IsOfFeed}
 use Rattle.stream_in.specs.Holding.{WritesOn}
 use Rattle.stream_in.specs.declared.stop.InStop.{InStop}
 use Rattle.stream_in.specs.declared.stop.InStop.TheVariants as stop
-use Rattle.stream_check.specs.declared.fault.StreamFault.{StreamFault}
+use Rattle.stream_in.specs.declared.checking.fault.StreamFault.{StreamFault}
 use Rattle.stream_in.proofs.Rests.{stops_then, unwritten, writes_then}
 use Rattle.swsusp_cli.specs.Imports.{IsCalledAtMost}
 use Rattle.swsusp_cli.specs.Feeding.{HoldsFed, IsStopFor}

@@ -7,9 +7,9 @@ use Rattle.definitions.specs.Disk.{Sector, Content, Changes, HasRisen, as_it_rea
 use Rattle.definitions.specs.Streams.{IsUsedUp}
 use Rattle.definitions.specs.SwapHeader.{marked}
 use Rattle.definitions.proofs.DiskLaws.{as_it_reads-settled, block-same, length-as_it_reads, length-settled}
-use Rattle.sig_header.specs.AreaKind.{area_kind}
-use Rattle.sig_header.specs.declared.area.Area.{Area}
-use Rattle.sig_header.specs.declared.area.AreaKind.TheVariants as kind
+use Rattle.image_format.specs.AreaKind.{area_kind}
+use Rattle.image_format.specs.declared.signature.area.Area.{Area}
+use Rattle.image_format.specs.declared.signature.area.AreaKind.TheVariants as kind
 use Rattle.plain_machine.specs.Image.{maps_of}
 use Rattle.plain_machine.specs.Image.{laid_block, laid_write, page_of_write}
 use Rattle.plain_machine.specs.UsableArea.{kind_fault}
@@ -17,9 +17,9 @@ use Rattle.plain_machine.specs.declared.no_swap.NoSwap.{NoSwap}
 use Rattle.image_write.specs.Writing.{Writing}
 use Rattle.image_write.proofs.Done.{place_of, place_below, block_of_write}
 use Rattle.swap_slots.specs.declared.table.SlotTable.{SlotTable}
-use Rattle.stream_check.specs.Grammar.{image_pages, all_pages, first_fault, short_fault, is_whole}
-use Rattle.stream_check.specs.declared.fault.StreamFault.{StreamFault}
-use Rattle.stream_check.proofs.Steps.{sound_from}
+use Rattle.stream_in.specs.Grammar.{image_pages, all_pages, first_fault, short_fault, is_whole}
+use Rattle.stream_in.specs.declared.checking.fault.StreamFault.{StreamFault}
+use Rattle.stream_in.proofs.Steps.{sound_from}
 use Rattle.stream_in.specs.Area.{AreUsable, first_block, open_fault}
 use Rattle.stream_in.specs.Holding.{ComesIn}
 use Rattle.stream_in.specs.Marking.{LeavesAt}

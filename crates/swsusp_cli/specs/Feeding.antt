@@ -3,9 +3,9 @@ use Rattle.std.specs.Prelude.{◌≡◌, ◌≤◌, ℕ, ◌+◌, ◌*◌, ◌/�
 use Rattle.definitions.specs.Disk.{Content, Changes, DiskImage, HasRisen, as_it_reads}
 use Rattle.definitions.specs.Streams.{HandsOut, IsUsedUp}
 use Rattle.plain_machine.specs.declared.reply.Left.TheVariants.{Same}
-use Rattle.stream_check.specs.Grammar.{first_fault}
-use Rattle.stream_check.specs.Grammar.{most_bytes}
-use Rattle.sig_header.specs.declared.area.Area.{Area}
+use Rattle.stream_in.specs.Grammar.{first_fault}
+use Rattle.stream_in.specs.Grammar.{most_bytes}
+use Rattle.image_format.specs.declared.signature.area.Area.{Area}
 use Rattle.stream_in.specs.Holding.{StaysReady}
 use Rattle.stream_in.specs.Moments.{AddsNoHeader}
 use Rattle.stream_in.specs.Outside.{StopsAtRest, WritesAtRest}

@@ -4,9 +4,9 @@ use Rattle.std.specs.Prelude.{Some, None, Result, Ok, Err, IfSome, Contains}
 use Rattle.definitions.specs.Disk.{Changes, Content, HasRisen, DiskImage, IsImage, as_it_reads, block, sector, settled}
 use Rattle.definitions.specs.Streams.{HandsOut, IsUsedUp}
 use Rattle.definitions.specs.SwapHeader.{marked, IsMarked}
-use Rattle.sig_header.specs.AreaKind.{area_kind}
-use Rattle.sig_header.specs.declared.area.Area.{Area}
-use Rattle.sig_header.specs.declared.area.AreaKind.TheVariants as kind
+use Rattle.image_format.specs.AreaKind.{area_kind}
+use Rattle.image_format.specs.declared.signature.area.Area.{Area}
+use Rattle.image_format.specs.declared.signature.area.AreaKind.TheVariants as kind
 use Rattle.plain_machine.specs.Image.{maps_of}
 use Rattle.plain_machine.specs.Image.{laid_block}
 use Rattle.plain_machine.specs.Replies.{line_of}
@@ -14,10 +14,10 @@ use Rattle.plain_machine.specs.UsableArea.{bad_slots_of}
 use Rattle.plain_machine.specs.declared.no_swap.NoSwap.{NoSwap}
 use Rattle.plain_machine.specs.declared.reply.Left.TheVariants.{Same}
 use Rattle.plain_machine.specs.declared.reply.Reply.TheVariants as reply
-use Rattle.stream_check.specs.Grammar.{image_pages, all_pages, first_fault, short_fault, most_bytes}
-use Rattle.stream_check.specs.declared.fault.Kind.{Kind}
-use Rattle.stream_check.specs.declared.fault.Kind.TheVariants as fault
-use Rattle.stream_check.specs.declared.fault.StreamFault.{StreamFault}
+use Rattle.stream_in.specs.Grammar.{image_pages, all_pages, first_fault, short_fault, most_bytes}
+use Rattle.stream_in.specs.declared.checking.fault.Kind.{Kind}
+use Rattle.stream_in.specs.declared.checking.fault.Kind.TheVariants as fault
+use Rattle.stream_in.specs.declared.checking.fault.StreamFault.{StreamFault}
 use Rattle.stream_in.specs.Area.{AreUsable, first_block, open_fault, HasTooFewFor, SufficeFor}
 use Rattle.stream_in.specs.Holding.{HasComeIn}
 use Rattle.stream_in.specs.Marking.{LeavesAt}

@@ -2,15 +2,15 @@
 use Rattle.std.specs.Prelude.{◌≡◌, ◌⊎◌, ℕ, List, Option, IfSome, nat_lt, if◌then◌else◌, [], ◌++◌, codes, decimal, ◌==◌}
 use Rattle.std.specs.Prelude.{bit_and}
 use Rattle.definitions.specs.Disk.{Content, HasRisen, raised, as_it_reads, block}
-use Rattle.sig_header.specs.AreaKind.{area_kind}
+use Rattle.image_format.specs.AreaKind.{area_kind}
 use Rattle.command_kit.specs.Told.{RunResult, unparsed, unread, line}
 use Rattle.command_kit.specs.View.{View}
 use Rattle.command_kit.specs.declared.status.Status.{Status}
 use Rattle.swsusp_cli.specs.Outcome.{IsOutOfMemory, Tells}
 use Rattle.definitions.specs.Bytes.{zero_page}
-use Rattle.sig_header.specs.declared.area.Mark.{Mark}
-use Rattle.sig_header.specs.declared.area.AreaKind.{AreaKind}
-use Rattle.sig_header.specs.declared.area.AreaKind.TheVariants.{Image, Old, Other, BadArea, Swap}
+use Rattle.image_format.specs.declared.signature.area.Mark.{Mark}
+use Rattle.image_format.specs.declared.signature.area.AreaKind.{AreaKind}
+use Rattle.image_format.specs.declared.signature.area.AreaKind.TheVariants.{Image, Old, Other, BadArea, Swap}
 use Rattle.plain_machine.specs.UsableArea.{no_swap_at}
 use Rattle.plain_machine.specs.Replies.{no_swap_text}
 use Rattle.plain_machine.specs.declared.no_swap.NoSwap.{NoSwap}

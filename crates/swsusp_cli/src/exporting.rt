@@ -8,10 +8,10 @@ ghost use Rattle.command_kit.specs.View.{DiskView, sink_view};
 use crate::dump_input::dump_of_input;
 use byte_streams::{Line, Sink, Source, put_all};
 use command_kit::{Answer, Status, no_memory, print};
+use frame_sets::Bitmap;
+use frame_table::{View, mark_all};
 use machine::Dump;
-use memory_bitmap::Bitmap;
 use page_core::{Failed, NoMemory};
-use saveable::{View, mark_all};
 use std::alloc::Global;
 use stream_out::{SlotsInUse, StreamOut};
 

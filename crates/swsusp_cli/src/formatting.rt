@@ -3,10 +3,10 @@ ghost use Rattle.definitions.specs.Disk.{Changes, HasRisen, raised};
 ghost use Rattle.plain_machine.specs.Machine.{IsHardware, block_of_slot};
 ghost use Rattle.swsusp_cli.specs.Replay.{Formats, FailsToFormat, IsNeeded, calls_until};
 
+use image_format::area_page;
 use machine::Hardware;
 use page_core::Failed;
 use sector_disk::Disk;
-use sig_header::area_page;
 use thiserror::Error;
 
 /// The call of the disk that failed while the area was formatted.

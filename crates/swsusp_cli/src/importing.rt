@@ -3,7 +3,7 @@ ghost use Rattle.std.specs.Prelude.{length, vec_len};
 ghost use Rattle.definitions.specs.Disk.{HasRisen};
 ghost use Rattle.definitions.specs.Streams.{HandsOut, IsUsedUp};
 ghost use Rattle.plain_machine.specs.Replies.{line_of};
-ghost use Rattle.sig_header.specs.declared.area.Area.{Area};
+ghost use Rattle.image_format.specs.declared.signature.area.Area.{Area};
 ghost use Rattle.stream_in.specs.Session.{IsFed, TakesInto};
 ghost use Rattle.stream_in.specs.Stops.{IsDiskStop};
 ghost use Rattle.stream_in.specs.Holding.{AreOfMap};
@@ -23,8 +23,7 @@ use plain_machine::Reply;
 use script::line_of;
 use sector_disk::Disk;
 use std::alloc::Global;
-use stream_check::{Kind, StreamFault};
-use stream_in::{InStop, StreamIn};
+use stream_in::{InStop, Kind, StreamFault, StreamIn};
 use thiserror::Error;
 
 /// The number of bytes of the stream that are read at a time.

@@ -8,11 +8,11 @@ ghost use Rattle.swsusp_cli.specs.Run.{IsInspected, calls_for};
 
 use byte_streams::Line;
 use command_kit::{Answer, Status};
+use image_format::{AreaKind, Mark};
 use page_core::Page;
 use plain_machine::NoSwap;
 use script::put_no_swap;
 use sector_disk::Disk;
-use sig_header::{AreaKind, Mark};
 
 /// Reads a block, and says what it means as the header of an area. A block that the disk doesn't have counts as zeros,
 /// and isn't read.

@@ -1,7 +1,7 @@
 //! `swsusp_image`: inspects the hibernation image of a swap area, copies it out and gives it up.
 #![tactic(auto)]
 
-use byte_streams::StdSink;
+use byte_streams::{Held, StdSink, hold, is_output, sync_output};
 use command_kit::{Status, print, tell};
 use expanded_cli::{check, check_json, core, differ, page, stream};
 use file_disk::FileDisk;
@@ -13,7 +13,6 @@ use image_machine_cli::{loader, machine};
 use image_words::{Area, Command, Form, Unparsed};
 use loader_words::Asked;
 use progress_disk::{Meter, ProgressDisk};
-use standard_streams::{Held, hold, is_output, sync_output};
 use std::env;
 use std::fs::File;
 use std::io::{self, IsTerminal};

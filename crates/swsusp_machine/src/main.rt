@@ -1,7 +1,7 @@
 //! `swsusp_machine`: makes machines, as memory dumps, to try `swsusp` on.
 #![tactic(auto)]
 
-use byte_streams::{StdSink, StdSource};
+use byte_streams::{Held, StdSink, StdSource, hold, is_output, sync_output};
 use command_kit::{Status, print, tell};
 use core_machine_cli::from_core;
 use file_disk::{FileDisk, first_map_beyond};
@@ -11,7 +11,6 @@ use page_core::NoMemory;
 use plain_machine::IdentCheck;
 use progress_disk::{Meter, ProgressDisk};
 use sector_disk::MemDisk;
-use standard_streams::{Held, hold, is_output, sync_output};
 use std::fs::File;
 use std::io::{BufReader, BufWriter, IsTerminal};
 use std::process::ExitCode;

@@ -1,8 +1,8 @@
 use boot_resume::{Call, Cause, FailedCall, FrameRange, Left, Machine, Resume};
 use definitions::{Ident, Info};
-use image_header::encode;
+use image_format::info::encode;
+use image_format::{area_page, mark};
 use page_core::Page;
-use sig_header::{area_page, mark};
 
 /// The state fits a caller's buffer of 16 KiB.
 const _: () = prove!(size_of::<Resume>() <= 16384);

@@ -1,7 +1,7 @@
 ghost use Rattle.std.specs.Prelude.{◌≤◌};
 
+use image_format::{Area, AreaFault, AreaKind, area_page, mark, take_back};
 use page_core::Page;
-use sig_header::{Area, AreaFault, AreaKind, area_page, mark, take_back};
 
 /// The last 40 bytes of a header block that was marked with the first map in block 1, SF_NOCOMPRESS_MODE and, after a
 /// hardware signature of 7, SF_HW_SIG.

@@ -1,6 +1,6 @@
 ghost use Rattle.std.specs.Prelude.{◌≡◌};
 
-use image_header::{Field, Ident, Info, check, decode, encode};
+use image_format::info::{Field, Ident, Info, check, decode, encode};
 
 /// The bytes of a name.
 const NAME_SIZE: usize = 65;

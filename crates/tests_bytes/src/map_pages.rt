@@ -1,4 +1,4 @@
-use swap_map::{ChainFault, MapReader, MapWriter};
+use image_format::{ChainFault, MapReader, MapWriter};
 
 // The 511 entries of an image whose first map is block 1, and the next map after them (struct swap_map_page,
 // kernel/power/swap.c).

@@ -2,10 +2,9 @@
 ghost use Rattle.std.specs.Prelude.{◌≡◌};
 
 use frame_arena::Frames;
-use memory_bitmap::Bitmap;
+use frame_sets::{Bitmap, Zones};
 use page_core::Page;
 use std::test::Fail;
-use zones::Zones;
 
 /// Returns the last words of page frames 1 to 3.
 fn last_words(frames: &Frames) -> [u64; 3] {

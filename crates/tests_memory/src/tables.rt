@@ -2,7 +2,7 @@
 
 use bitflags::Flags;
 use frame_arena::Frames;
-use page_states::{PageFlags, entry, set_entry};
+use frame_table::{PageFlags, entry, set_entry};
 use std::test::Fail;
 use swap_slots::{FreeRuns, SlotEntry, SlotTable};
 

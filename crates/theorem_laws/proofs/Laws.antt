@@ -13,12 +13,12 @@ use Rattle.command_kit.specs.declared.status.Status.{Status}
 use Rattle.script.specs.Grammar.{ScriptValue}
 use Rattle.script.specs.Drill.{drill_events}
 use Rattle.sector_disk.specs.declared.disk.Disk.{Ghosts}
-use Rattle.run_laws.specs.Copies.{AllRestore}
-use Rattle.run_laws.specs.Resumes.{AreResumedOnce}
-use Rattle.run_laws.specs.Sleeps.{NeverBothGoOn}
-use Rattle.run_laws.proofs.AtomicCopy.{all_restore}
-use Rattle.run_laws.proofs.Once.{resumed_once}
-use Rattle.run_laws.proofs.Sleeps.{never_both}
+use Rattle.theorem_laws.specs.Copies.{AllRestore}
+use Rattle.theorem_laws.specs.Resumes.{AreResumedOnce}
+use Rattle.theorem_laws.specs.Sleeps.{NeverBothGoOn}
+use Rattle.theorem_laws.proofs.AtomicCopy.{all_restore}
+use Rattle.theorem_laws.proofs.Once.{resumed_once}
+use Rattle.theorem_laws.proofs.Sleeps.{never_both}
 use Rattle.world_runs.specs.Turns.{steps_of}
 use Rattle.swsusp_cli.specs.Drills as drills
 use Rattle.swsusp_cli.specs.Drills.{IsDrilled}

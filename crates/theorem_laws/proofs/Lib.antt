@@ -6,3 +6,15 @@ pub mod Cycle
 pub mod Completes
 pub mod ComesBack
 pub mod RefusedDumps
+pub mod AtomicCopy
+pub mod Beginning
+pub mod Events
+pub mod Keeping
+pub mod Once
+pub mod Refused
+pub mod Resuming
+pub mod Shrinking
+pub mod Sleeping
+pub mod Sleeps
+pub mod Spent
+pub mod Staying

@@ -4,3 +4,7 @@ pub mod LoadEnds
 pub mod Cycle
 pub mod Completes
 pub mod ComesBack
+pub mod Copies
+pub mod Resumes
+pub mod Shrinks
+pub mod Sleeps

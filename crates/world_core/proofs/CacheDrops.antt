@@ -33,8 +33,8 @@ use Rattle.machine.specs.declared.flight.Flight.{Flight as Operation}
 use Rattle.machine.proofs.Rows.{Mirrors, mirrors_of, mirrors_entry, mirrors-frame_entry, frame_table_fits}
 use Rattle.hib_core.specs.Begin.{busy_of}
 use Rattle.hib_core.proofs.BeginRefusals.{busy_is, not_busy}
-use Rattle.reclaim.specs.Drop.{dropped_frames, may_drop}
-use Rattle.reclaim.proofs.DropLaws.{Contains-from_take}
+use Rattle.frame_table.specs.Drop.{dropped_frames, may_drop}
+use Rattle.frame_table.proofs.DropLaws.{Contains-from_take}
 use Rattle.world_core.specs.declared.world.Core.{Core}
 use Rattle.world_core.specs.declared.world.Core.TheVariants.{Running as Runs, Hibernating, Loading}
 use Rattle.world_core.specs.World.{World}

@@ -8,8 +8,8 @@ use Rattle.definitions.specs.Disk as disk
 use Rattle.definitions.proofs.Ascending.{Contains-head, Contains-tail}
 use Rattle.definitions.proofs.DiskLaws.{IsImage-as_it_reads}
 use Rattle.definitions.proofs.ZoneNumbers.{range-bounds}
-use Rattle.sig_header.specs.AreaKind.{area_kind}
-use Rattle.sig_header.specs.declared.area.Area.{Area}
+use Rattle.image_format.specs.AreaKind.{area_kind}
+use Rattle.image_format.specs.declared.signature.area.Area.{Area}
 use Rattle.plain_machine.specs.Machine.{Hardware, Memory, IsHardware, IsSameMemory, Fits, block_of_slot, is_slot_entry, raw_slot_entry, bad_slot, image_slot}
 use Rattle.plain_machine.specs.Chain.{Marked}
 use Rattle.plain_machine.specs.Loader.{has}

@@ -3,9 +3,9 @@ use Rattle.std.proofs.Common.{◌≡◌, ◌⊎◌, inl, inr, ℕ, Bool, true, f
 use Rattle.std.specs.Result.{IfOk, MatchResult}
 use Rattle.std.proofs.lemmas.Bool.{false≢true}
 use Rattle.definitions.specs.Disk as disk
-use Rattle.sig_header.specs.declared.area.Area.{Area}
-use Rattle.sig_header.specs.declared.area.AreaKind.{AreaKind}
-use Rattle.sig_header.specs.declared.area.AreaKind.TheVariants.{Swap}
+use Rattle.image_format.specs.declared.signature.area.Area.{Area}
+use Rattle.image_format.specs.declared.signature.area.AreaKind.{AreaKind}
+use Rattle.image_format.specs.declared.signature.area.AreaKind.TheVariants.{Swap}
 use Rattle.plain_machine.specs.declared.event.IdentCheck.{IdentCheck}
 use Rattle.plain_machine.specs.declared.event.Loader.{Loader}
 use Rattle.plain_machine.specs.Image.{Image}

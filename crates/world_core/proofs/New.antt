@@ -6,16 +6,16 @@ use Rattle.definitions.specs.Bytes.{bytes_at}
 use Rattle.definitions.specs.Disk as disk
 use Rattle.definitions.specs.SwapHeader.{IsMarked, sig_of, image_signature, taken_back}
 use Rattle.definitions.proofs.DiskLaws.{IsImage-settled, as_it_reads-settled}
-use Rattle.sig_header.specs.AreaKind.{area_kind}
-use Rattle.sig_header.specs.declared.area.Area.{Area}
-use Rattle.sig_header.specs.declared.area.AreaKind.TheVariants.{Swap}
+use Rattle.image_format.specs.AreaKind.{area_kind}
+use Rattle.image_format.specs.declared.signature.area.Area.{Area}
+use Rattle.image_format.specs.declared.signature.area.AreaKind.TheVariants.{Swap}
 use Rattle.plain_machine.specs.Machine.{Hardware, Memory}
 use Rattle.plain_machine.specs.Shows.{ShowsKept}
 use Rattle.plain_machine.specs.Chain.{header_of, blocks_of as blocks_in, Marked}
 use Rattle.plain_machine.specs.UsableArea.{area_block, area_fault, dump_area_fault, kind_or_fit_fault}
 use Rattle.plain_machine.specs.declared.event.BootFrom.{BootFrom}
 use Rattle.plain_machine.specs.declared.event.BootFrom.TheVariants.{Fresh, Kept}
-use Rattle.sig_header.specs.declared.area.AreaKind.{AreaKind}
+use Rattle.image_format.specs.declared.signature.area.AreaKind.{AreaKind}
 use Rattle.plain_machine.specs.State.{off, Held, nothing, sure, other}
 use Rattle.plain_machine.specs.Stands.{Stands, IsHeld, AgreeOnArea}
 use Rattle.plain_machine.specs.declared.no_swap.NoSwap.{NoSwap}

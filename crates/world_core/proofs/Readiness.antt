@@ -7,7 +7,7 @@ use Rattle.definitions.specs.Tables.{owner_of}
 use Rattle.definitions.specs.Zones.{numbers, top}
 use Rattle.definitions.proofs.Ascending.{Contains-head, Contains-tail}
 use Rattle.definitions.proofs.ZoneNumbers.{range-bounds}
-use Rattle.sig_header.specs.declared.area.Area.{Area}
+use Rattle.image_format.specs.declared.signature.area.Area.{Area}
 use Rattle.swap_slots.specs.Runs.{SlotRuns}
 use Rattle.swap_slots.specs.Table.{Matches}
 use Rattle.plain_machine.specs.Machine.{Hardware, Memory, IsHardware, frame_entry}

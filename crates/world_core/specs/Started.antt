@@ -5,16 +5,16 @@ use Rattle.std.specs.List.{range_with_len}
 use Rattle.definitions.specs.Bytes.{zero_page}
 use Rattle.definitions.specs.Disk as disk
 use Rattle.definitions.specs.SwapHeader.{taken_back}
-use Rattle.sig_header.specs.AreaKind.{area_kind}
-use Rattle.sig_header.specs.declared.area.AreaKind.{AreaKind}
-use Rattle.sig_header.specs.declared.area.AreaKind.TheVariants.{Swap}
+use Rattle.image_format.specs.AreaKind.{area_kind}
+use Rattle.image_format.specs.declared.signature.area.AreaKind.{AreaKind}
+use Rattle.image_format.specs.declared.signature.area.AreaKind.TheVariants.{Swap}
 use Rattle.plain_machine.specs.FreshMemory.{with_each_entry}
 use Rattle.plain_machine.specs.Machine.{Hardware, Memory}
 use Rattle.plain_machine.specs.UsableArea.{kind_or_fit_fault, bad_set_fault, first_fault}
 use Rattle.plain_machine.specs.declared.event.BootFrom.{BootFrom}
 use Rattle.plain_machine.specs.declared.event.BootFrom.TheVariants.{Fresh, Kept}
 use Rattle.plain_machine.specs.declared.no_swap.NoSwap.{NoSwap}
-use Rattle.sig_header.specs.declared.area.Area.{Area}
+use Rattle.image_format.specs.declared.signature.area.Area.{Area}
 use Rattle.plain_machine.specs.declared.held.Held.TheVariants.{No, Yes}
 use Rattle.protocol_laws.specs.Headers.{is_image}
 use Rattle.machine.specs.FreshSlots.{slot_of_area}

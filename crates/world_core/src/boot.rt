@@ -3,9 +3,9 @@ ghost use Rattle.std.specs.Prelude.{IfOk, IfErr, OnOk, OnErr, IfSome, MatchResul
 ghost use Rattle.definitions.specs.Bytes.{zero_page};
 ghost use Rattle.definitions.specs.Disk.{HasRisen, raised, as_it_reads, Changes, Elapses};
 ghost use Rattle.definitions.specs.Zones.{top};
-ghost use Rattle.sig_header.specs.declared.area.Area.{Area as AreaValue};
-ghost use Rattle.sig_header.specs.declared.area.AreaKind.TheVariants.{Swap};
-ghost use Rattle.sig_header.specs.AreaKind.{area_kind};
+ghost use Rattle.image_format.specs.declared.signature.area.Area.{Area as AreaValue};
+ghost use Rattle.image_format.specs.declared.signature.area.AreaKind.TheVariants.{Swap};
+ghost use Rattle.image_format.specs.AreaKind.{area_kind};
 ghost use Rattle.plain_machine.specs.Machine.{block_of_slot};
 ghost use Rattle.plain_machine.specs.Refusals.{asks_dump_to_boot};
 ghost use Rattle.plain_machine.specs.FreshMemory.{fresh_frames};
@@ -17,11 +17,11 @@ ghost use Rattle.sector_disk.specs.Called.{Called};
 use crate::World;
 use crate::world::Core;
 use frame_arena::Frames;
+use image_format::{Area, AreaKind, take_back};
 use machine::{Flight, Hardware, has_bad_slots, set_fresh, set_slots, slot_table, usable};
 use page_core::{Failed, Page};
 use plain_machine::{BootFrom, Held, Left, NoSwap, Reply};
 use sector_disk::Disk;
-use sig_header::{Area, AreaKind, take_back};
 
 // Booting: fresh memory at once, then a sync, then a read of the header block (own; Linux has its memory from the
 // firmware).

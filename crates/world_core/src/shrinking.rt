@@ -8,9 +8,9 @@ ghost use Rattle.protocol_laws.specs.Rows.{TellsNewFault};
 use crate::World;
 use crate::world::Core;
 use frame_arena::Frames;
+use frame_table::shrink;
 use machine::Hardware;
 use plain_machine::Reply;
-use reclaim::shrink;
 
 /// The number of entries, of 4 bytes each, in a page frame of a table.
 const ENTRIES: u32 = 1024;

@@ -3,9 +3,9 @@ use Rattle.definitions.specs.Zones.{numbers}
 use Rattle.std.proofs.lemmas.List.Elements.{filter-append, All-contains}
 use Rattle.definitions.specs.FrameSets.{inserted}
 use Rattle.definitions.proofs.FrameSets.{inserted_above, Contains-from_filter}
-use Rattle.memory_bitmap.specs.FrameSet.{FrameSet}
-use Rattle.memory_bitmap.specs.Left.{left_in}
-use Rattle.memory_bitmap.proofs.Yielded.{next_member}
+use Rattle.frame_sets.specs.FrameSet.{FrameSet}
+use Rattle.frame_sets.specs.Left.{left_in}
+use Rattle.frame_sets.proofs.Yielded.{next_member}
 use Rattle.snapshot.specs.Taken.{is_zero_frame}
 use Rattle.snapshot.proofs.mark_zeros.Goals as goal
 

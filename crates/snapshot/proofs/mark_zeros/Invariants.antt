@@ -1,5 +1,5 @@
 use Rattle.std.proofs.Common.{◌≡◌, ◌++◌, filter}
-use Rattle.memory_bitmap.specs.Left.{left_in}
+use Rattle.frame_sets.specs.Left.{left_in}
 use Rattle.snapshot.specs.Taken.{is_zero_frame}
 use Rattle.snapshot.proofs.mark_zeros.Given as goal
 

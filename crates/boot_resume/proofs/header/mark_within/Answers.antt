@@ -1,10 +1,10 @@
 use Rattle.std.proofs.Common.{◌≡◌, ℕ, List, Bool, true, false, cond, ◌==◌, nat_lt, refl, ap, ◌∙◌, Option, Some, None}
-use Rattle.sig_header.specs.AreaKind.{area_kind, area_with, version_1_kind, mark_of, same_bytes}
+use Rattle.image_format.specs.AreaKind.{area_kind, area_with, version_1_kind, mark_of, same_bytes}
 use Rattle.definitions.specs.SwapHeader.{area_signature, bad_count_of, bad_pages_of, first_outside, image_signature, last_page_of, old_signature, sig_of, version_of}
-use Rattle.sig_header.specs.declared.area.Mark.{Mark}
-use Rattle.sig_header.specs.declared.area.AreaFault.{AreaFault}
-use Rattle.sig_header.specs.declared.area.AreaKind.{AreaKind}
-use Rattle.sig_header.specs.declared.area.AreaKind.TheVariants.{Image, Old, Other, BadArea}
+use Rattle.image_format.specs.declared.signature.area.Mark.{Mark}
+use Rattle.image_format.specs.declared.signature.area.AreaFault.{AreaFault}
+use Rattle.image_format.specs.declared.signature.area.AreaKind.{AreaKind}
+use Rattle.image_format.specs.declared.signature.area.AreaKind.TheVariants.{Image, Old, Other, BadArea}
 use Rattle.boot_resume.specs.Marks.{mark_by, mark_within}
 use Rattle.boot_resume.proofs.header.mark_within.Goals as goal
 

@@ -1,6 +1,6 @@
 use Rattle.std.proofs.Common.{◌≡◌, List, ℕ, Bool, true, false, cond, not, Option, Some, None, refl, sym, ap, ◌∙◌, subst, IfOk}
-use Rattle.sig_header.specs.AreaKind.{mark_of, same_bytes}
-use Rattle.sig_header.specs.declared.area.Mark.{Mark}
+use Rattle.image_format.specs.AreaKind.{mark_of, same_bytes}
+use Rattle.image_format.specs.declared.signature.area.Mark.{Mark}
 use Rattle.definitions.specs.SwapHeader.{image_signature, sig_of}
 use Rattle.boot_resume.specs.Marks.{mark_by}
 use Rattle.boot_resume.specs.Memory.{Tests}

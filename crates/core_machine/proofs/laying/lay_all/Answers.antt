@@ -2,10 +2,10 @@ use Rattle.std.proofs.Common.{◌≡◌, ◌≤◌, ◌<◌, ◌+◌, ℕ, List,
 use Rattle.std.proofs.lemmas.List.{drop_all, take_all}
 use Rattle.std.proofs.lemmas.List.Elements.{All-nil}
 use Rattle.std.proofs.lemmas.Result.{err_from_is_err_and}
-use Rattle.core_segments.specs.Pages.{places_end}
-use Rattle.core_segments.specs.Segments.{first_frame, frame_end, place_after, segment_at, segments_fault}
-use Rattle.core_segments.specs.declared.segment.Segment.{Segment}
-use Rattle.core_segments.proofs.Opened.{SegmentRight, first_right}
+use Rattle.core_machine.specs.Pages.{places_end}
+use Rattle.core_machine.specs.Segments.{first_frame, frame_end, place_after, segment_at, segments_fault}
+use Rattle.core_machine.specs.declared.segments.segment.Segment.{Segment}
+use Rattle.core_machine.proofs.Opened.{SegmentRight, first_right}
 use Rattle.core_machine.specs.Laid.{IsLaidUpTo, LiesBelow}
 use Rattle.core_machine.specs.Made.{end_after, frames_in, saved_of}
 use Rattle.core_machine.proofs.Lying.{lies_above, same_later, saved_more, saved_none}

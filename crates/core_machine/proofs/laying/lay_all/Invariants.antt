@@ -1,6 +1,6 @@
 use Rattle.std.proofs.Common.{◌≡◌, ◌≤◌, ℕ, List, drop, take}
-use Rattle.core_segments.specs.Pages.{places_end}
-use Rattle.core_segments.specs.Reading.{IsReadTo}
+use Rattle.core_machine.specs.Pages.{places_end}
+use Rattle.core_machine.specs.Reading.{IsReadTo}
 use Rattle.core_machine.specs.Laid.{IsLaidUpTo, IsSamePlan}
 use Rattle.core_machine.specs.Made.{frames_in, saved_of}
 use Rattle.core_machine.proofs.laying.lay_all.Given as goal

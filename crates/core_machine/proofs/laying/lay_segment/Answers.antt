@@ -1,5 +1,5 @@
 use Rattle.std.proofs.Common.{◌≡◌, ◌≤◌, ◌+◌, ℕ, List, ◌++◌, ◌∷◌, [], filter, arith, ap, ◌∙◌}
-use Rattle.core_segments.specs.Segments.{first_frame, frame_end}
+use Rattle.core_machine.specs.Segments.{first_frame, frame_end}
 use Rattle.core_machine.specs.Made.{holds_bytes}
 use Rattle.core_machine.proofs.Lying.{front_more, front_of, in_zone, laid_more, lies_above, same_later}
 use Rattle.core_machine.proofs.Places.{at_end, at_next, before_page, near, sized}

@@ -1,6 +1,6 @@
 use Rattle.std.proofs.Common.{◌≡◌, ◌≤◌, ℕ, List}
-use Rattle.core_segments.specs.Reading.{IsReadTo}
-use Rattle.core_segments.specs.Segments.{first_frame}
+use Rattle.core_machine.specs.Reading.{IsReadTo}
+use Rattle.core_machine.specs.Segments.{first_frame}
 use Rattle.core_machine.specs.Laid.{IsLaidOver, IsSamePlan, LiesBelow}
 use Rattle.core_machine.proofs.Lying.{front_of}
 use Rattle.core_machine.proofs.Places.{At}

@@ -1,9 +1,9 @@
 use Rattle.std.proofs.Common.{◌≡◌, ◌≤◌, ◌^◌, ℕ, All, List, [], ◌∷◌, None, refl, sym, ap, subst, ◌∙◌}
 use Rattle.std.proofs.lemmas.Result.{err_from_is_err_and}
-use Rattle.core_segments.specs.Pages.{places_end}
-use Rattle.core_segments.specs.Segments.{address_end, none_fault, segments_fault}
-use Rattle.core_segments.specs.declared.segment.Segment.{Segment}
-use Rattle.core_segments.proofs.Faults.{none-second}
+use Rattle.core_machine.specs.Pages.{places_end}
+use Rattle.core_machine.specs.Segments.{address_end, none_fault, segments_fault}
+use Rattle.core_machine.specs.declared.segments.segment.Segment.{Segment}
+use Rattle.core_machine.proofs.Faults.{none-second}
 use Rattle.core_machine.specs.Made.{IsPlain, frames_in}
 use Rattle.core_machine.proofs.Places.{all_low}
 use Rattle.core_machine.proofs.Stopped.{core_right, end_is, heading_is, lacks_at_last, lacks_at_once, lacks_bytes, lacks_head, made, one_zone}

@@ -1,8 +1,8 @@
 use Rattle.std.proofs.Common.{◌≡◌, ℕ, [], ◌∷◌, Option, Some, None, Bool, true, false, Result, Ok, Err, OnOk, OnErr, refl, subst, sym, ap, ◌∙◌, inl, inr}
 use Rattle.std.specs.Result.{is_err}
 use Rattle.definitions.specs.Disk.{Content}
-use Rattle.sig_header.specs.AreaKind.{area_kind}
-use Rattle.sig_header.specs.declared.area.Mark.{Mark}
+use Rattle.image_format.specs.AreaKind.{area_kind}
+use Rattle.image_format.specs.declared.signature.area.Mark.{Mark}
 use Rattle.image_check.specs.Checked.{FindsImage, FindsMark, mark_in}
 use Rattle.image_check.specs.declared.finding.Finding.TheVariants as finding
 use Rattle.image_check.proofs.Earlier.{image_earlier}

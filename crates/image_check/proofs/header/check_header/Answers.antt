@@ -1,6 +1,6 @@
 use Rattle.std.proofs.Common.{Option, ap, subst, ◌∙◌}
 use Rattle.definitions.specs.SwapHeader.{taken_back}
-use Rattle.sig_header.specs.AreaKind.{area_kind}
+use Rattle.image_format.specs.AreaKind.{area_kind}
 use Rattle.image_check.specs.Header.{area_fault, compressed_fault}
 use Rattle.image_check.specs.Told.{Tells, list_of}
 use Rattle.image_check.specs.declared.finding.Finding.{Finding}

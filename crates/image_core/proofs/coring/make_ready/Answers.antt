@@ -2,8 +2,8 @@ use Rattle.std.proofs.Common.{◌≡◌, ◌≤◌, ◌∙◌, ℕ, [], Option, 
 use Rattle.std.proofs.lemmas.Result.{err_from_is_err_and}
 use Rattle.definitions.specs.Disk.{Content}
 use Rattle.image_pages.specs.Chain.{IsChainPage}
-use Rattle.image_frames.specs.Given.{HasGiven}
-use Rattle.image_frames.specs.Numbered.{HasNumbered}
+use Rattle.image_pages.specs.Given.{HasGiven}
+use Rattle.image_pages.specs.Numbered.{HasNumbered}
 use Rattle.image_core.specs.Cores.{IsStopped}
 use Rattle.image_core.specs.declared.coring.Ready.{Ready}
 use Rattle.image_core.specs.declared.stop.Stop.{Stop}

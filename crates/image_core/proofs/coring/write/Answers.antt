@@ -1,7 +1,7 @@
 use Rattle.std.proofs.Common.{◌≡◌, ◌≤◌, ◌∙◌, ℕ, List, [], Option, Result, Err, IfErr, refl, sym, ap, subst, arith}
 use Rattle.std.proofs.lemmas.Result.{err_from_is_err_and}
 use Rattle.definitions.specs.Disk.{Content}
-use Rattle.image_frames.specs.Given.{HasGiven}
+use Rattle.image_pages.specs.Given.{HasGiven}
 use Rattle.image_core.specs.Cores.{IsStopped, IsUnwritten}
 use Rattle.image_core.specs.Counted.{HasTallied}
 use Rattle.image_core.specs.Parts.{HasPages}

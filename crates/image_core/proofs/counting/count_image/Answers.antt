@@ -2,7 +2,7 @@ use Rattle.std.proofs.Common.{◌≡◌, ◌≤◌, ◌∙◌, ℕ, [], Option, 
 use Rattle.std.proofs.lemmas.Result.{err_from_is_err_and}
 use Rattle.definitions.specs.Disk.{Content}
 use Rattle.image_check.specs.Info.{counts_in}
-use Rattle.image_frames.specs.Numbered.{HasNumbered}
+use Rattle.image_pages.specs.Numbered.{HasNumbered}
 use Rattle.image_core.specs.Cores.{IsStopped}
 use Rattle.image_core.specs.declared.counting.Tally.{Tally}
 use Rattle.image_core.specs.declared.stop.Stop.{Stop}

@@ -1,7 +1,7 @@
 use Rattle.std.proofs.Common.{◌≡◌, ◌<◌, ◌∷◌, ◌++◌, ◌∙◌, ℕ, List, [], length, inr, subst, sym, arith}
 use Rattle.image_check.specs.Info.{counts_in}
-use Rattle.image_saved.proofs.Since.{refused_since}
-use Rattle.image_frames.specs.Numbered.{HasNumbered}
+use Rattle.image_pages.proofs.SinceSaved.{refused_since}
+use Rattle.image_pages.specs.Numbered.{HasNumbered}
 use Rattle.image_core.proofs.Numbering.{Counts, counts_all, counts_more, ends_early}
 use Rattle.image_core.proofs.counting.count_runs.Goals as goal
 

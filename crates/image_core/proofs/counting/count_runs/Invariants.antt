@@ -1,5 +1,5 @@
 use Rattle.std.proofs.Common.{◌≡◌, ◌≤◌, ℕ, []}
-use Rattle.image_frames.specs.Numbered.{HasNumbered}
+use Rattle.image_pages.specs.Numbered.{HasNumbered}
 use Rattle.image_core.proofs.Numbering.{Counts}
 use Rattle.image_core.proofs.counting.count_runs.Given as goal
 

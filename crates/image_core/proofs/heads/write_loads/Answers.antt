@@ -5,8 +5,8 @@ use Rattle.definitions.specs.FreeRuns.{runs_of}
 use Rattle.definitions.specs.Streams.{TakesFront}
 use Rattle.elf_core.specs.Elf.{page_offset}
 use Rattle.image_pages.specs.Chain.{chain_page}
-use Rattle.image_saved.specs.Formats.{chain_format}
-use Rattle.image_saved.proofs.Since.{refused_since}
+use Rattle.image_pages.specs.Formats.{chain_format}
+use Rattle.image_pages.proofs.SinceSaved.{refused_since}
 use Rattle.image_core.specs.Cores.{IsStopped}
 use Rattle.image_core.specs.Counted.{HasTallied}
 use Rattle.image_core.specs.Listed.{AreListed}

@@ -1,6 +1,6 @@
 use Rattle.std.proofs.Common.{◌≡◌, ◌≤◌, ℕ, []}
 use Rattle.elf_core.specs.Elf.{page_offset}
-use Rattle.image_frames.specs.Numbered.{HasNumbered}
+use Rattle.image_pages.specs.Numbered.{HasNumbered}
 use Rattle.image_core.proofs.Tallied.{Lists}
 use Rattle.image_core.proofs.heads.write_loads.Given as goal
 

@@ -1,6 +1,6 @@
 use Rattle.std.proofs.Common.{[], ◌∷◌, ◌∙◌, inr, subst, sym}
 use Rattle.image_pages.specs.Opens.{Opens}
-use Rattle.image_saved.proofs.Since.{refused_since, stands_since}
+use Rattle.image_pages.proofs.SinceSaved.{refused_since, stands_since}
 use Rattle.image_core.proofs.Since.{info_in_chain}
 use Rattle.image_core.proofs.opening.read_info.Goals as goal
 

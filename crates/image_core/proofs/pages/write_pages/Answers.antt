@@ -2,8 +2,8 @@ use Rattle.std.proofs.Common.{◌≡◌, ◌<◌, ◌∷◌, ◌++◌, ◌∙◌
 use Rattle.std.proofs.lemmas.Result.{err_from_is_err_and}
 use Rattle.definitions.specs.Disk.{Content}
 use Rattle.definitions.specs.Streams.{TakesAll, TakesFront}
-use Rattle.image_saved.proofs.Since.{refused_since}
-use Rattle.image_frames.specs.Given.{HasGiven, frame_of}
+use Rattle.image_pages.proofs.SinceSaved.{refused_since}
+use Rattle.image_pages.specs.Given.{HasGiven, frame_of}
 use Rattle.image_core.specs.Cores.{IsStopped}
 use Rattle.image_core.specs.Counted.{HasTallied}
 use Rattle.image_core.specs.declared.stop.Stop.{Stop}

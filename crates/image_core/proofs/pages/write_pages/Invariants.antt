@@ -1,5 +1,5 @@
 use Rattle.std.proofs.Common.{◌≡◌, ◌≤◌, ℕ, []}
-use Rattle.image_frames.specs.Given.{HasGiven}
+use Rattle.image_pages.specs.Given.{HasGiven}
 use Rattle.image_core.proofs.Paging.{Writes}
 use Rattle.image_core.proofs.pages.write_pages.Given as goal
 

@@ -1,6 +1,6 @@
 use Rattle.std.proofs.Common.{◌∙◌, [], subst}
-use Rattle.image_frames.specs.Opens.{Opens}
-use Rattle.image_frames.specs.declared.frames.Opened.{Opened}
+use Rattle.image_pages.specs.OpensFrames.{Opens}
+use Rattle.image_pages.specs.declared.frames.frames.Opened.{Opened}
 use Rattle.image_differ.specs.Sides.{side_view}
 use Rattle.image_differ.proofs.Sides.{as_before, given_since}
 use Rattle.image_differ.proofs.begun.begin.Goals as goal

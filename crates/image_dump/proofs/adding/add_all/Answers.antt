@@ -2,9 +2,9 @@ use Rattle.std.proofs.Common.{ℕ, List, [], ◌∷◌, ◌++◌, Option, sym, s
 use Rattle.std.specs.List.{Contains}
 use Rattle.definitions.specs.Disk.{Content}
 use Rattle.definitions.specs.Zones.{numbers}
-use Rattle.image_frames.specs.Numbered.{HasNumbered}
-use Rattle.image_frames.specs.SavedNumbers.{AreAllNumbers, AreFirstNumbers}
-use Rattle.image_saved.proofs.Since.{refused_since}
+use Rattle.image_pages.specs.Numbered.{HasNumbered}
+use Rattle.image_pages.specs.SavedNumbers.{AreAllNumbers, AreFirstNumbers}
+use Rattle.image_pages.proofs.SinceSaved.{refused_since}
 use Rattle.image_dump.proofs.Given.{appended, fewer_left, has_last}
 use Rattle.image_dump.proofs.Since.{numbered_since}
 use Rattle.image_dump.proofs.adding.add_all.Goals as goal

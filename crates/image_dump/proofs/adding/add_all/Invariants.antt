@@ -1,5 +1,5 @@
 use Rattle.std.proofs.Common.{◌≡◌, ◌≤◌, ◌-◌, ℕ, [], length}
-use Rattle.image_frames.specs.Numbered.{HasNumbered}
+use Rattle.image_pages.specs.Numbered.{HasNumbered}
 use Rattle.image_machine.specs.Plans.{IsPlan}
 use Rattle.image_dump.proofs.adding.add_all.Given as goal
 

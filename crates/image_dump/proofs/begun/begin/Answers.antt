@@ -1,5 +1,5 @@
 use Rattle.std.proofs.Common.{[], subst, ◌∙◌}
-use Rattle.image_frames.specs.Opens.{OpensNumbers}
+use Rattle.image_pages.specs.OpensFrames.{OpensNumbers}
 use Rattle.image_dump.proofs.Since.{numbered_since}
 use Rattle.image_dump.proofs.begun.begin.Goals as goal
 

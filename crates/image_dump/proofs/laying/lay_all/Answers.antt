@@ -2,10 +2,10 @@ use Rattle.std.proofs.Common.{ℕ, List, [], ◌∷◌, ◌++◌, Option, refl, 
 use Rattle.std.specs.List.{Contains}
 use Rattle.definitions.specs.Disk.{Content}
 use Rattle.definitions.specs.Zones.{numbers}
-use Rattle.image_frames.specs.Given.{frame_of}
-use Rattle.image_frames.specs.SavedFrames.{AreAllSaved, AreFirstSaved}
+use Rattle.image_pages.specs.Given.{frame_of}
+use Rattle.image_pages.specs.SavedFrames.{AreAllSaved, AreFirstSaved}
 use Rattle.image_machine.specs.Filled.{IsFilled}
-use Rattle.image_saved.proofs.Since.{refused_since}
+use Rattle.image_pages.proofs.SinceSaved.{refused_since}
 use Rattle.image_dump.specs.Lays.{pages_of}
 use Rattle.image_dump.proofs.Laid.{above_numbers, fewer_laid, has_number, pages_more}
 use Rattle.image_dump.proofs.Since.{given_since}

@@ -1,5 +1,5 @@
 use Rattle.std.proofs.Common.{◌≡◌, ◌≤◌, ◌-◌, ℕ, [], length}
-use Rattle.image_frames.specs.Given.{HasGiven}
+use Rattle.image_pages.specs.Given.{HasGiven}
 use Rattle.image_dump.proofs.Laid.{IsLaid}
 use Rattle.image_dump.proofs.laying.lay_all.Given as goal
 

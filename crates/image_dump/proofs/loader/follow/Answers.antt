@@ -1,9 +1,9 @@
 use Rattle.std.proofs.Common.{Option, [], inr, sym, subst, ◌∙◌}
 use Rattle.definitions.specs.Disk.{Content}
-use Rattle.image_frames.specs.Opens.{OpensNumbers}
-use Rattle.image_frames.specs.SavedNumbers.{AreAllNumbers}
+use Rattle.image_pages.specs.OpensFrames.{OpensNumbers}
+use Rattle.image_pages.specs.SavedNumbers.{AreAllNumbers}
 use Rattle.image_machine.specs.Limits.{StopsAtLast}
-use Rattle.image_saved.proofs.Since.{refused_since}
+use Rattle.image_pages.proofs.SinceSaved.{refused_since}
 use Rattle.image_dump.specs.Adds.{IsOutside}
 use Rattle.image_dump.proofs.Making.{limit_at_last, limit_outside, loader_made}
 use Rattle.image_dump.proofs.Since.{numbered_since}

@@ -1,8 +1,8 @@
 use Rattle.std.proofs.Common.{Option, [], inr, sym, subst, ◌∙◌}
 use Rattle.definitions.specs.Disk.{Content}
-use Rattle.image_frames.specs.Opens.{Opens}
-use Rattle.image_frames.specs.SavedFrames.{AreAllSaved}
-use Rattle.image_saved.proofs.Since.{refused_since}
+use Rattle.image_pages.specs.OpensFrames.{Opens}
+use Rattle.image_pages.specs.SavedFrames.{AreAllSaved}
+use Rattle.image_pages.proofs.SinceSaved.{refused_since}
 use Rattle.image_dump.specs.Lays.{LiesOutside, pages_of}
 use Rattle.image_dump.proofs.Making.{machine_at_last, machine_made, machine_outside}
 use Rattle.image_dump.proofs.Since.{given_since}

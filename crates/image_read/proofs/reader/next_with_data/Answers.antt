@@ -2,9 +2,9 @@ use Rattle.std.proofs.Common.{◌≡◌, ℕ, List, slice_get, leb, sym, ap, ◌
 use Rattle.std.proofs.lemmas.Bool.{both_ways}
 use Rattle.std.proofs.lemmas.List.Kept.{IsStrictlyIncreasing-filter}
 use Rattle.definitions.proofs.FrameSets.{Contains-from_filter}
-use Rattle.memory_bitmap.specs.Left.{left_in, members_from}
-use Rattle.memory_bitmap.proofs.Bounds.{member_below}
-use Rattle.memory_bitmap.proofs.Yielded.{next_member}
+use Rattle.frame_sets.specs.Left.{left_in, members_from}
+use Rattle.frame_sets.proofs.Bounds.{member_below}
+use Rattle.frame_sets.proofs.Yielded.{next_member}
 use Rattle.image_read.specs.Taking.{with_data}
 use Rattle.image_read.proofs.NextFrame.{first_with_data, data_first, data_later}
 use Rattle.image_read.proofs.reader.next_with_data.Goals as goal

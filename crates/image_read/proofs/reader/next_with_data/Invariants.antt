@@ -1,6 +1,6 @@
 use Rattle.std.proofs.Common.{◌≡◌, ◌++◌, slice_get}
 use Rattle.definitions.specs.Zones.{first_from}
-use Rattle.memory_bitmap.specs.Left.{left_in, members_from}
+use Rattle.frame_sets.specs.Left.{left_in, members_from}
 use Rattle.image_read.specs.Taking.{with_data}
 use Rattle.image_read.proofs.reader.next_with_data.Given as goal
 

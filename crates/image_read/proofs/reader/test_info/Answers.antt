@@ -1,7 +1,7 @@
 use Rattle.std.proofs.Common.{◌≤◌, inl, inr, arith}
 use Rattle.std.proofs.lemmas.Bool.{cases_Bool}
 use Rattle.definitions.proofs.ZoneNumbers.{count_at_most, top_at_most}
-use Rattle.image_header.specs.Counts.{are_bad_counts}
+use Rattle.image_format.specs.Counts.{are_bad_counts}
 use Rattle.image_read.proofs.Counts.{fits_in}
 use Rattle.image_read.proofs.reader.test_info.Goals as goal
 

@@ -4,7 +4,7 @@ use Rattle.definitions.specs.Disk.{HasRisen}
 use Rattle.definitions.specs.Streams.{TakesAll, TakesFront}
 use Rattle.image_check.specs.Info.{counts_in}
 use Rattle.image_check.specs.declared.finding.Counts.{Counts}
-use Rattle.image_saved.proofs.Searching.{info_has}
+use Rattle.image_pages.proofs.Searching.{info_has}
 use Rattle.image_stream.specs.Plain.{plain_info}
 use Rattle.image_stream.specs.Streamed.{IsStopped}
 use Rattle.image_stream.specs.declared.streaming.Stop.{Stop}

@@ -1,10 +1,10 @@
 use Rattle.std.proofs.Common.{◌≡◌, ◌≤◌, ℕ, List, [], ◌∷◌, ◌++◌, Option, Result, Ok, Err, OnErr, refl, sym, ap, subst, ◌∙◌, arith}
 use Rattle.definitions.specs.Disk.{Content}
 use Rattle.definitions.specs.Streams.{TakesAll, TakesFront}
-use Rattle.image_frames.specs.Given.{frame_of}
-use Rattle.image_frames.specs.SavedFrames.{SavedFrame}
-use Rattle.image_frames.specs.Says.{AreAllGiven}
-use Rattle.image_saved.proofs.Since.{refused_since}
+use Rattle.image_pages.specs.Given.{frame_of}
+use Rattle.image_pages.specs.SavedFrames.{SavedFrame}
+use Rattle.image_pages.specs.Says.{AreAllGiven}
+use Rattle.image_pages.proofs.SinceSaved.{refused_since}
 use Rattle.image_stream.specs.Converted.{IsFrameFront}
 use Rattle.image_stream.proofs.Framing.{fewer_left, frames_cut, has_frames, writes_more, writes_none}
 use Rattle.image_stream.proofs.Starting.{given_earlier}

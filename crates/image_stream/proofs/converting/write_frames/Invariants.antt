@@ -1,5 +1,5 @@
 use Rattle.std.proofs.Common.{◌≡◌, ◌≤◌, ◌-◌, ℕ, []}
-use Rattle.image_frames.specs.Given.{HasGiven}
+use Rattle.image_pages.specs.Given.{HasGiven}
 use Rattle.image_stream.proofs.Framing.{Writes}
 use Rattle.image_stream.proofs.converting.write_frames.Given as goal
 

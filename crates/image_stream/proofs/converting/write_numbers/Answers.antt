@@ -2,7 +2,7 @@ use Rattle.std.proofs.Common.{◌≡◌, ◌<◌, ◌≤◌, ◌*◌, ◌-◌, �
 use Rattle.definitions.specs.Disk.{Content}
 use Rattle.definitions.specs.NumberPages.{meta_of}
 use Rattle.definitions.specs.Streams.{TakesAll, TakesFront}
-use Rattle.image_saved.proofs.Since.{refused_since, stands_since}
+use Rattle.image_pages.proofs.SinceSaved.{refused_since, stands_since}
 use Rattle.image_stream.specs.Converted.{HasLists, IsAtLists, IsListFront}
 use Rattle.image_stream.proofs.Listing.{front_since, lists_cut, lists_next, lists_none, lists_refused, lists_since, more_lists}
 use Rattle.image_stream.proofs.converting.write_numbers.Goals as goal

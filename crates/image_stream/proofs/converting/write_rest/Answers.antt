@@ -1,7 +1,7 @@
 use Rattle.std.proofs.Common.{◌≡◌, ◌≤◌, ◌∷◌, [], ℕ, Bool, true, false, List, Option, Result, Ok, Err, IfOk, OnErr, inr, sym, ap, subst, ◌∙◌, arith}
 use Rattle.definitions.specs.NumberPages.{meta_of}
 use Rattle.image_check.specs.Info.{counts_in}
-use Rattle.image_frames.specs.Given.{HasPassed}
+use Rattle.image_pages.specs.Given.{HasPassed}
 use Rattle.image_stream.specs.Converted.{HasLists, IsFrameFront, WritesFrames, WritesLists}
 use Rattle.image_stream.specs.Streamed.{IsFront, IsStreamed}
 use Rattle.image_stream.specs.declared.streaming.Streamed.{Streamed}

@@ -1,6 +1,6 @@
 use Rattle.std.proofs.Common.{◌≡◌, ℕ, ◌<◌, Bool, false, true, Some, Result, Ok, Err, OnOk, subst, sym, ap, ◌∙◌}
 use Rattle.std.specs.Result.{is_err}
-use Rattle.sig_header.specs.AreaKind.{area_kind}
+use Rattle.image_format.specs.AreaKind.{area_kind}
 use Rattle.image_check.specs.Checked.{mark_in}
 use Rattle.image_check.specs.Header.{is_compressed}
 use Rattle.image_check.specs.Told.{Told}

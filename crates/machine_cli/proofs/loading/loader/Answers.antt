@@ -8,7 +8,7 @@ use Rattle.command_kit.specs.declared.status.Status.TheVariants.{Done}
 use Rattle.command_kit.specs.declared.status.Status.TheVariants as variant
 use Rattle.swsusp_cli.proofs.Causes.{blameless, done_cause, memory_cause, stop_cause}
 use Rattle.swsusp_cli.proofs.Inputs.{without_dump}
-use Rattle.fresh_dump.specs.KeptSlots.{kept_slot}
+use Rattle.dump_tools.specs.KeptSlots.{kept_slot}
 use Rattle.plain_machine.specs.Machine.{Hardware, Memory}
 use Rattle.plain_machine.specs.FreshMemory.{fresh_memory}
 use Rattle.machine_cli.specs.Freshened.{no_dump, out_of_memory, unread, freshened}

@@ -1,6 +1,6 @@
 use Rattle.std.proofs.Common.{◌≡◌, ℕ, ◌+◌, ◌<◌, length, get_or, drop, refl, sym, ap, ◌∙◌, arith}
 use Rattle.std.proofs.lemmas.Option.{same_Some}
-use Rattle.memory_bitmap.proofs.Yielded.{yields_next}
+use Rattle.frame_sets.proofs.Yielded.{yields_next}
 use Rattle.pfn_pack.specs.Places.{count_below}
 use Rattle.pfn_pack.proofs.Below.{left_from, count_below-next, small}
 use Rattle.pfn_pack.proofs.packing.behind_more.Goals as goal

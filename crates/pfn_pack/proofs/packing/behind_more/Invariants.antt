@@ -1,5 +1,5 @@
 use Rattle.std.proofs.Common.{◌≡◌, ◌+◌, drop}
-use Rattle.memory_bitmap.specs.Left.{left_in}
+use Rattle.frame_sets.specs.Left.{left_in}
 use Rattle.pfn_pack.specs.Places.{count_below}
 use Rattle.pfn_pack.proofs.packing.behind_more.Given as goal
 

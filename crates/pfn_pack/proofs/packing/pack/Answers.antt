@@ -3,7 +3,7 @@ use Rattle.std.proofs.lemmas.Option.{same_Some}
 use Rattle.definitions.specs.NumberPages.{marked_numbers, page_of_words, end_value}
 use Rattle.definitions.specs.Bytes.{with_word}
 use Rattle.definitions.proofs.PageWords.{page_of_words-nil}
-use Rattle.memory_bitmap.proofs.Yielded.{yields_next}
+use Rattle.frame_sets.proofs.Yielded.{yields_next}
 use Rattle.pfn_pack.specs.Places.{members_in}
 use Rattle.pfn_pack.proofs.Below.{left_from}
 use Rattle.pfn_pack.proofs.Filling.{words_of_page, page_more, page_full, page_ended, length-marked}

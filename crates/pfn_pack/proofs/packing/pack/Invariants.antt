@@ -1,6 +1,6 @@
 use Rattle.std.proofs.Common.{◌≡◌, ◌+◌, ◌*◌, drop, take, option_copied}
 use Rattle.definitions.specs.NumberPages.{page_of_words, marked_numbers}
-use Rattle.memory_bitmap.specs.Left.{left_in}
+use Rattle.frame_sets.specs.Left.{left_in}
 use Rattle.pfn_pack.specs.Places.{members_in}
 use Rattle.pfn_pack.proofs.Filling.{words_of_page}
 use Rattle.pfn_pack.proofs.packing.pack.Given as goal

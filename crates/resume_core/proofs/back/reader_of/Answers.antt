@@ -1,6 +1,6 @@
 use Rattle.std.proofs.Common.{cond, sym, ap, ◌∙◌}
 use Rattle.page_core.specs.declared.format.Format.TheVariants.{Plain, SkipZeros}
-use Rattle.sig_header.specs.declared.area.Mark.{Mark}
+use Rattle.image_format.specs.declared.signature.area.Mark.{Mark}
 use Rattle.plain_machine.specs.Trace.{is_set}
 use Rattle.image_read.specs.Stream.{IsAreaOf}
 use Rattle.resume_core.proofs.Headers.{cause_of_map}

@@ -2,7 +2,7 @@ use Rattle.std.proofs.Common.{ℕ, List, refl, sym, ap, ◌∙◌, subst, arith}
 use Rattle.std.specs.List.{Contains}
 use Rattle.definitions.specs.Zones.{numbers}
 use Rattle.definitions.proofs.ZoneNumbers.{below_top, top_at_most}
-use Rattle.memory_bitmap.specs.FrameSet.{FrameSet}
+use Rattle.frame_sets.specs.FrameSet.{FrameSet}
 use Rattle.resume_core.proofs.First.{is_first, all_below}
 use Rattle.resume_core.proofs.Clearing.{without_none, without_next, without_all, run_valid, run_ascending, set_is}
 use Rattle.resume_core.proofs.begin.clear_between.Goals as goal

@@ -1,6 +1,6 @@
 use Rattle.std.proofs.Common.{◌≡◌, ◌&&◌, ℕ, List, length, get_or, take, leb, filter, not, Bool, refl, ap, ◌∙◌, arith}
 use Rattle.std.proofs.lemmas.List.{take_all}
-use Rattle.memory_bitmap.specs.FrameSet.{FrameSet}
+use Rattle.frame_sets.specs.FrameSet.{FrameSet}
 use Rattle.resume_core.proofs.Clearing.{without_any, one_more, none_yet, set_left, set_is}
 use Rattle.resume_core.proofs.begin.clear_ranges.Goals as goal
 

@@ -1,6 +1,6 @@
 use Rattle.std.proofs.Common.{◌≡◌, ◌&&◌, filter, not, take, leb}
 use Rattle.std.specs.List.{list_any}
-use Rattle.memory_bitmap.specs.FrameSet.{IsFrameSet}
+use Rattle.frame_sets.specs.FrameSet.{IsFrameSet}
 use Rattle.resume_core.proofs.begin.clear_ranges.Given as goal
 
 abbrev pub invariant-loop-first : goal.invariant-loop-first

@@ -2,7 +2,7 @@ use Rattle.std.proofs.Common.{◌≡◌, ◌≤◌, ◌<◌, ◌+◌, ◌-◌, �
 use Rattle.std.proofs.lemmas.Bool.{cases_lt, le-leb, lt-leb, lt-ltb, le-ltb, eq-eqb, ne_eqb, and_right}
 use Rattle.std.proofs.lemmas.List.{take_all}
 use Rattle.definitions.proofs.ZoneNumbers.{below_top, top_at_most}
-use Rattle.memory_bitmap.specs.FrameSet.{FrameSet, IsFrameSet}
+use Rattle.frame_sets.specs.FrameSet.{FrameSet, IsFrameSet}
 use Rattle.plain_machine.specs.Machine.{Hardware, IsHardware}
 use Rattle.resume_core.proofs.Clearing.{without_any, one_more, none_more, none_yet, set_left, set_is}
 use Rattle.resume_core.proofs.begin.clear_regions.Goals as goal

@@ -1,7 +1,7 @@
 use Rattle.std.proofs.Common.{◌≡◌, ℕ, List, refl, sym, ap, ◌∙◌, subst}
 use Rattle.std.specs.List.{Contains}
 use Rattle.definitions.specs.Bytes.{filled_page}
-use Rattle.memory_bitmap.specs.FrameSet.{FrameSet}
+use Rattle.frame_sets.specs.FrameSet.{FrameSet}
 use Rattle.plain_machine.specs.Loader.{loader_page, loader_frame, left_free}
 use Rattle.plain_machine.specs.declared.event.Loader.{Loader}
 use Rattle.resume_core.proofs.begin.make_loader.Goals as goal

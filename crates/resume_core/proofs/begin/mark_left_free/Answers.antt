@@ -1,6 +1,6 @@
 use Rattle.std.proofs.Common.{◌&&◌, ℕ, Bool, List, filter, not, ap, ◌∙◌}
 use Rattle.definitions.specs.Zones.{numbers}
-use Rattle.memory_bitmap.specs.FrameSet.{FrameSet}
+use Rattle.frame_sets.specs.FrameSet.{FrameSet}
 use Rattle.plain_machine.specs.Loader.{is_in_ranges, is_in_regions}
 use Rattle.resume_core.proofs.Clearing.{filter_twice, set_left, set_is}
 use Rattle.resume_core.proofs.begin.mark_left_free.Goals as goal

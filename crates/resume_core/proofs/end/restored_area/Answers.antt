@@ -1,5 +1,5 @@
 use Rattle.std.proofs.Common.{Some, ap, sym, refl, ◌∙◌}
-use Rattle.sig_header.specs.AreaKind.{area_kind}
+use Rattle.image_format.specs.AreaKind.{area_kind}
 use Rattle.plain_machine.specs.declared.reply.Reply.TheVariants as reply
 use Rattle.machine.proofs.Readiness.{reserved-fits}
 use Rattle.resume_core.proofs.Ending.{tables_good, bad_slots, no_area, fits_of}

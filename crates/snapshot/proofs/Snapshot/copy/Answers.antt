@@ -2,7 +2,7 @@ use Rattle.std.proofs.Common.{◌≡◌, ℕ, ◌<◌, ◌≤◌, length, take, 
 use Rattle.definitions.specs.ZoneFacts.{AreApart}
 use Rattle.definitions.specs.Tables.{frame}
 use Rattle.definitions.specs.Tables.{saveable_frames, free_frames}
-use Rattle.memory_bitmap.specs.FrameSet.{FrameSet}
+use Rattle.frame_sets.specs.FrameSet.{FrameSet}
 use Rattle.snapshot.specs.Taken.{Taken}
 use Rattle.snapshot.proofs.Copying.{ready, pages_copied, pages_kept}
 use Rattle.snapshot.proofs.Snapshot.copy.Goals as goal

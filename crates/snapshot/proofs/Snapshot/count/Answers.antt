@@ -1,11 +1,11 @@
 use Rattle.std.proofs.Common.{◌≡◌, ℕ, List, ◌<◌, length, get_or, sym, ap, ◌∙◌, subst, arith}
 use Rattle.definitions.specs.ZoneFacts.{AreApart}
 use Rattle.definitions.specs.Tables.{saveable_frames}
-use Rattle.memory_bitmap.specs.FrameSet.{FrameSet}
+use Rattle.frame_sets.specs.FrameSet.{FrameSet}
 use Rattle.snapshot.specs.Taken.{Taken}
 use Rattle.snapshot.proofs.Copying.{saved_below}
 use Rattle.snapshot.proofs.Few.{few_zeros}
-use Rattle.memory_bitmap.proofs.Bounds.{few_members}
+use Rattle.frame_sets.proofs.Bounds.{few_members}
 use Rattle.snapshot.proofs.Snapshot.count.Goals as goal
 
 pub mark_zeros-requires-clause-within : goal.mark_zeros-requires-clause-within

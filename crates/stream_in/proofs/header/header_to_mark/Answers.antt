@@ -1,7 +1,7 @@
 use Rattle.std.proofs.Common.{◌≡◌, ◌<◌, Some, IsTrue, sym, ap, subst, ◌∙◌, rules}
 use Rattle.definitions.specs.Disk.{Changes, as_it_reads, block}
 use Rattle.plain_machine.specs.UsableArea.{kind_fault}
-use Rattle.sig_header.specs.AreaKind.{area_kind}
+use Rattle.image_format.specs.AreaKind.{area_kind}
 use Rattle.stream_in.proofs.Contents.{if_map}
 use Rattle.stream_in.proofs.Moments.{alike_call, alike_then, told_same_mixtures, told_synced_mixtures}
 use Rattle.stream_in.specs.Moments.{AddsNoImage}

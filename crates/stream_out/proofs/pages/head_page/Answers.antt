@@ -2,7 +2,7 @@ use Rattle.std.proofs.Common.{◌≡◌, ℕ, ◌-◌, ◌<◌, suc, [], length,
 use Rattle.definitions.specs.InfoPage.{info_page}
 use Rattle.definitions.specs.NumberPages.{meta_of}
 use Rattle.stream_out.specs.Pages.{stream_over, info_over}
-use Rattle.memory_bitmap.proofs.Bounds.{few_members}
+use Rattle.frame_sets.proofs.Bounds.{few_members}
 use Rattle.stream_out.proofs.Streams.{first_page, number_page_at}
 use Rattle.stream_out.proofs.pages.head_page.Goals as goal
 

@@ -1,6 +1,6 @@
 use Rattle.std.proofs.Common.{◌≡◌, ◌<◌, ◌≤◌, ◌-◌, ℕ, List, [], length, IsTrue}
 use Rattle.definitions.specs.Disk.{Changes}
-use Rattle.sig_header.specs.declared.area.Area.{Area}
+use Rattle.image_format.specs.declared.signature.area.Area.{Area}
 use Rattle.stream_in.specs.Holding.{StaysReady}
 use Rattle.stream_in.specs.Session.{IsFed, TakesInto}
 use Rattle.stream_in.specs.Holding.{AreOfMap}

@@ -5,7 +5,7 @@ use Rattle.definitions.specs.Disk.{Content, as_it_reads}
 use Rattle.plain_machine.specs.Image.{laid_block}
 use Rattle.stream_in.specs.Holding.{IsReadyFor}
 use Rattle.std.proofs.lemmas.Result.{err_from_is_err_and}
-use Rattle.stream_check.specs.declared.fault.StreamFault.{StreamFault}
+use Rattle.stream_in.specs.declared.checking.fault.StreamFault.{StreamFault}
 use Rattle.stream_in.specs.Session.{IsGoing, TakesInto}
 use Rattle.stream_in.specs.Holding.{AreOfMap}
 use Rattle.stream_in.specs.declared.stop.InStop.TheVariants as stop

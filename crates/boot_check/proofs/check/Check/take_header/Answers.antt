@@ -1,6 +1,6 @@
 use Rattle.std.proofs.Common.{◌≡◌, ◌++◌, ◌∷◌, [], Some, false, ap, sym, subst, ◌∙◌}
 use Rattle.definitions.specs.SwapHeader.{taken_back}
-use Rattle.sig_header.specs.AreaKind.{area_kind}
+use Rattle.image_format.specs.AreaKind.{area_kind}
 use Rattle.image_check.specs.Checked.{format_of, mark_in}
 use Rattle.image_check.specs.Header.{header_findings, is_compressed, limits_of}
 use Rattle.image_check.specs.Told.{Tells}

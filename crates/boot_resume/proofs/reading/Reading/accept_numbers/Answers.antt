@@ -1,6 +1,6 @@
 use Rattle.std.proofs.Common.{◌≡◌, ◌+◌, ◌-◌, ◌<◌, Err, refl, ap, ◌∙◌, arith}
 use Rattle.std.proofs.lemmas.Result.{err_from_is_err_and}
-use Rattle.sig_header.specs.declared.area.Mark.{Mark}
+use Rattle.image_format.specs.declared.signature.area.Mark.{Mark}
 use Rattle.boot_resume.specs.OnDisk.{data_before, format_by, number_before, stream_page}
 use Rattle.boot_resume.proofs.Accepting.{accepts_refused, all_right, end_wrong, listed_wrong, page_refused, tallied_all}
 use Rattle.boot_resume.proofs.reading.Reading.accept_numbers.Goals as goal

@@ -1,5 +1,5 @@
 use Rattle.std.proofs.Common.{◌≡◌, ◌+◌, ◌<◌, List, None, inl, refl, ◌∙◌, subst, arith}
-use Rattle.sig_header.specs.declared.area.Mark.{Mark}
+use Rattle.image_format.specs.declared.signature.area.Mark.{Mark}
 use Rattle.boot_resume.specs.OnDisk.{content_cause, hardware_cause, mark_in}
 use Rattle.boot_resume.specs.Calls.{Turn, listed_from, page_then, unless}
 use Rattle.boot_resume.proofs.Counting.{listed_more, unless_none}

@@ -1,6 +1,6 @@
 use Rattle.std.proofs.Common.{◌≡◌, ◌+◌, ◌%◌, List, ◌∷◌, Err, true, false, refl, sym, ap, ◌∙◌}
 use Rattle.std.proofs.lemmas.Result.{err_from_is_err_and}
-use Rattle.sig_header.specs.declared.area.Mark.{Mark}
+use Rattle.image_format.specs.declared.signature.area.Mark.{Mark}
 use Rattle.definitions.specs.Bytes.{word}
 use Rattle.boot_resume.specs.OnDisk.{format_by, has_no_data, mark_in, number_cause, number_fault, number_in, word_in}
 use Rattle.boot_resume.specs.Calls.{Turn, data_then, handed_from, page_then, places}

@@ -2,7 +2,7 @@
 use Rattle.std.proofs.Common.{◌≡◌, ◌≢◌, true, false, not, Result, ◌≤◌, ◌<◌, ℕ, ◌+◌, ◌-◌, List, [], length, refl, subst, sym, ap, ◌∙◌, arith, IsOk}
 use Rattle.std.proofs.lemmas.Bool.{false≢true}
 use denote.Enum.Bare.{sameb}
-use Rattle.sig_header.specs.declared.area.Area.{Area}
+use Rattle.image_format.specs.declared.signature.area.Area.{Area}
 use Rattle.definitions.specs.Tables.{saveable_frames, free_frames}
 use Rattle.definitions.specs.NumberPages.{meta_of}
 use Rattle.definitions.specs.Tables.{HasTable}
@@ -14,7 +14,7 @@ use Rattle.plain_machine.specs.contracts.held.Held.{the_type}
 use Rattle.plain_machine.specs.declared.held.Held.{Held}
 use Rattle.plain_machine.specs.declared.held.Held.TheVariants.{No, Yes, Perhaps}
 use Rattle.plain_machine.specs.declared.no_swap.NoSwap.{NoSwap}
-use Rattle.prealloc.specs.declared.Short.{Short}
+use Rattle.frame_table.specs.declared.prealloc.Short.{Short}
 use Rattle.snapshot.specs.Taken.{Taken, zero_frames}
 use Rattle.snapshot.specs.declared.Counts.{Counts}
 use Rattle.swap_slots.specs.Table.{LiesIn, free_in}

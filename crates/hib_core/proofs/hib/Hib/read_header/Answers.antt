@@ -3,7 +3,7 @@ use Rattle.hib_core.specs.declared.hib.Stage.TheVariants as stage
 use Rattle.std.proofs.Common.{◌≡◌, ◌<◌, List, refl, sym, ap, ◌∙◌, subst, ℕ}
 use Rattle.definitions.specs.Slots.{block_of}
 use Rattle.plain_machine.specs.UsableArea.{kind_fault}
-use Rattle.sig_header.specs.AreaKind.{area_kind}
+use Rattle.image_format.specs.AreaKind.{area_kind}
 use Rattle.plain_machine.specs.declared.reply.Reply.TheVariants as reply
 use Rattle.plain_machine.specs.declared.reply.Left.TheVariants.{Same}
 use Rattle.hib_core.specs.declared.hib.Saving.{Saving}

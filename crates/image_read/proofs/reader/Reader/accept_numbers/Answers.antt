@@ -1,6 +1,6 @@
 use Rattle.std.proofs.Common.{◌≡◌, ℕ, ◌+◌, List, ◌++◌, length, Option, Some, None, Err, refl, sym, ap, ap₂, ◌∙◌, subst}
 use Rattle.std.proofs.lemmas.Result.{err_from_is_err_and}
-use Rattle.memory_bitmap.specs.FrameSet.{FrameSet}
+use Rattle.frame_sets.specs.FrameSet.{FrameSet}
 use Rattle.pfn_pack.specs.Unpacked.{Unpacked}
 use Rattle.pfn_pack.specs.Numbers.{wanted, numbers_in, marked_in}
 use Rattle.image_read.specs.Causes.{cause_of_numbers}

@@ -4,7 +4,7 @@ use Rattle.definitions.specs.Bytes.{word}
 use Rattle.definitions.specs.Zones.{numbers}
 use Rattle.definitions.specs.FrameSets.{inserted}
 use Rattle.definitions.proofs.ZoneNumbers.{below_top, top_at_most}
-use Rattle.memory_bitmap.specs.FrameSet.{FrameSet}
+use Rattle.frame_sets.specs.FrameSet.{FrameSet}
 use Rattle.pfn_pack.specs.Numbers.{fault_in, before_in, number_in, number_by, is_marked_by, numbers_in, marked_in}
 use Rattle.pfn_pack.proofs.Firsts.{first_below-none}
 use Rattle.pfn_pack.proofs.Listing.{numbers_in-none, marked_in-none, numbers_in-more, marked_in-one, marked_in-same, valid_number, inserted_number, up_to_numbers, up_to_marked}

@@ -2,7 +2,7 @@ use Rattle.std.proofs.Common.{◌≡◌, ℕ, ◌≤◌, ◌+◌, length, refl, 
 use Rattle.definitions.specs.Tables.{table_frame_count}
 use Rattle.definitions.specs.Zones.{top}
 use Rattle.machine.proofs.Rows.{slot_table_fits}
-use Rattle.memory_bitmap.specs.FrameSet.{FrameSet}
+use Rattle.frame_sets.specs.FrameSet.{FrameSet}
 use Rattle.resume_core.proofs.Beginning.{begun_row}
 use Rattle.resume_core.proofs.load.Load.begin.Goals as goal
 

@@ -1,6 +1,6 @@
 use Rattle.std.proofs.Common.{◌≡◌, ◌≤◌, ℕ, length, refl, sym, ap, ◌∙◌, subst, arith}
 use Rattle.definitions.specs.FreeRuns.{free_runs}
-use Rattle.page_restore.specs.Waiting.{Awaiting}
+use Rattle.placement.specs.Waiting.{Awaiting}
 use Rattle.swap_slots.specs.Runs.{SlotRuns}
 use Rattle.swap_slots.specs.Table.{Matches}
 use Rattle.swap_slots.specs.declared.table.SlotTable.{SlotTable}

@@ -6,7 +6,7 @@ use Rattle.image_read.specs.declared.reader.ReadStep.TheVariants as read_step
 use Rattle.protocol_laws.specs.Rows.{TellsNewFault}
 use Rattle.sector_disk.specs.Called.{AtMostOneCall}
 use Rattle.sector_disk.proofs.Called.{fails_as}
-use Rattle.page_restore.specs.Waiting.{with_data}
+use Rattle.placement.specs.Waiting.{with_data}
 use Rattle.resume_core.specs.Refusals.{refusal_behind}
 use Rattle.image_read.specs.Reading.{places_left}
 use Rattle.resume_core.specs.StepsLeft.{loading_steps_left_at}

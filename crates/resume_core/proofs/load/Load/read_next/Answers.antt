@@ -2,7 +2,7 @@ use Rattle.std.proofs.Common.{◌≡◌, ◌<◌, ◌+◌, ℕ, length, rules, i
 use Rattle.definitions.specs.Zones.{top}
 use Rattle.image_read.specs.Answers.{Reads}
 use Rattle.image_read.specs.Causes.{reply_of}
-use Rattle.page_restore.specs.Waiting.{Awaiting, waiting_pages}
+use Rattle.placement.specs.Waiting.{Awaiting, waiting_pages}
 use Rattle.plain_machine.specs.declared.reply.Reply.TheVariants as reply
 use Rattle.plain_machine.specs.declared.reply.Left.TheVariants.{Gone}
 use Rattle.resume_core.specs.StepsLeft.{loading_steps_left_at}

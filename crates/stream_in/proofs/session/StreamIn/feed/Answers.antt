@@ -1,7 +1,7 @@
 use Rattle.std.proofs.Common.{refl, rules, append-nil, ◌≡◌, ℕ, ◌+◌, ◌-◌, ◌*◌, ◌/◌, ◌%◌, ◌≤◌, List, [], ◌++◌, IsTrue, length, take, drop, Some, sym, ap, subst, ◌∙◌, arith, length-append, length-drop}
 use Rattle.std.proofs.lemmas.List.{length-take-le, take_all}
-use Rattle.stream_check.specs.Grammar.{first_fault}
-use Rattle.stream_check.proofs.Steps.{first_fault-stays}
+use Rattle.stream_in.specs.Grammar.{first_fault}
+use Rattle.stream_in.proofs.Steps.{first_fault-stays}
 use Rattle.stream_in.specs.Session.{IsGoing, IsFed}
 use Rattle.stream_in.specs.Area.{HasTooFewFor, SufficeFor}
 use Rattle.definitions.specs.Disk.{Changes, DiskImage}

@@ -1,10 +1,10 @@
 use Rattle.std.proofs.Common.{◌≡◌, ℕ, None, Err, IfSome, refl, ap, subst, ◌∙◌, rules}
 use Rattle.std.proofs.lemmas.Result.{err_from_is_err_and}
 use Rattle.stream_in.specs.declared.stop.InStop.TheVariants as stop
-use Rattle.stream_check.specs.declared.fault.StreamFault.{StreamFault}
+use Rattle.stream_in.specs.declared.checking.fault.StreamFault.{StreamFault}
 use Rattle.definitions.specs.Disk.{Changes}
 use Rattle.plain_machine.specs.Image.{laid_block}
-use Rattle.stream_check.specs.Grammar.{short_fault}
+use Rattle.stream_in.specs.Grammar.{short_fault}
 use Rattle.stream_in.specs.Marked.{Marks}
 use Rattle.stream_in.specs.Moments.{ElapsesOverMark, TriesMark}
 use Rattle.stream_in.proofs.ComingIn.{told_comes_in, first_block_of, told_whole, none_whole, told_leaves_whole, none_leaves_whole}

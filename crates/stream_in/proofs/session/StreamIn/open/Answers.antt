@@ -1,7 +1,7 @@
 use Rattle.std.proofs.Common.{◌≡◌, ℕ, None, sym, ap, subst, ◌∙◌}
 use Rattle.definitions.specs.Disk.{as_it_reads}
-use Rattle.sig_header.specs.AreaKind.{area_kind}
-use Rattle.sig_header.specs.declared.area.AreaKind.TheVariants as kind
+use Rattle.image_format.specs.AreaKind.{area_kind}
+use Rattle.image_format.specs.declared.signature.area.AreaKind.TheVariants as kind
 use Rattle.stream_in.specs.Area.{first_block, open_fault}
 use Rattle.stream_in.specs.Session.{IsOpened}
 use Rattle.stream_in.proofs.Contents.{if_map}

@@ -2,7 +2,7 @@ use Rattle.std.proofs.Common.{◌≤◌, ◌<◌, ℕ, ◌+◌, List, ◌++◌, 
 use Rattle.definitions.specs.NumberPages.{meta_of}
 use Rattle.definitions.specs.Zones.{top}
 use Rattle.stream_out.proofs.Kept.{over, pages, head_part, data_part, head_within, data_within, kept_in_head}
-use Rattle.memory_bitmap.proofs.Bounds.{few_members}
+use Rattle.frame_sets.proofs.Bounds.{few_members}
 use Rattle.stream_out.proofs.Streams.{all_within, part_fits, part_bytes, part_left}
 use Rattle.stream_out.proofs.stream.StreamOut.next_of_page.Goals as goal
 

@@ -1,2 +1,0 @@
-//! Laws that tie the findings of an image to what a resume of it answers, as lemmas.
-#![tactic(auto)]

@@ -1,4 +1,0 @@
-pub mod Images
-pub mod Owners
-pub mod PageCounts
-pub mod Seen

@@ -1,0 +1,5 @@
+pub mod Differences
+pub mod KeptSlots
+pub mod Counts
+pub mod Facts
+pub mod Texts

@@ -1,0 +1,3 @@
+pub mod DropLaws
+pub mod DropCounts
+pub mod Picks

@@ -1,0 +1,3 @@
+pub mod BadPages
+pub mod SixNames
+pub mod Entries

@@ -1,0 +1,4 @@
+pub mod AreaKind
+pub mod Counts
+pub mod MapPages
+pub mod Writer

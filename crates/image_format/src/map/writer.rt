@@ -1,0 +1,87 @@
+ghost use Rattle.std.specs.Prelude.{◌≡◌, ◌<◌, ◌≤◌, ◌↔◌, [], ◌∷◌, ◌++◌, length};
+ghost use Rattle.definitions.specs.SwapMap.{map_page};
+
+use crate::map::ENTRIES;
+use page_core::Page;
+use std::marker::Model;
+
+/// Whether a map page has room for another entry.
+#[derive(Clone, Copy, Debug, PartialEq, Eq)]
+pub enum Pushed {
+    /// The page has its 511 entries.
+    Full,
+    Room,
+}
+
+/// A map page that is being filled. A contract sees its entries so far, and its link.
+#[derive(Drop)]
+pub struct MapWriter {
+    page: Page,
+    count: usize,
+}
+
+impl Model for MapWriter {
+    ghost use Rattle.image_format.specs.MapPages.{MapEntries};
+
+    ghost Value = { MapEntries };
+
+    ghost use Rattle.image_format.specs.Writer.{kept_entries, IsKept};
+
+    ghost view = { kept_entries };
+
+    ghost invariant = { IsKept };
+}
+
+impl MapWriter {
+    /// Makes a map page with no entry and no link.
+    pub fn begin() -> MapWriter
+        ensures entries { result.entries ≡ [] }
+        ensures link { result.link ≡ 0 }
+    {
+        MapWriter {
+            page: Page::zero(),
+            count: 0,
+        }
+    }
+
+    /// Adds an entry: the block of the image's next page.
+    pub fn push(&mut self, block: u64) -> Pushed
+        requires { length self.old.entries < 511 }
+        ensures entries { self.new.entries ≡ self.old.entries ++ block ∷ [] }
+        ensures link { self.new.link ≡ self.old.link }
+        ensures full { (result ≡ Pushed.Full) ↔ (length self.new.entries ≡ 511) }
+        ensures room { (result ≡ Pushed.Room) ↔ (length self.new.entries < 511) }
+    {
+        self.page.set_word(self.count, block);
+        self.count += 1;
+        room_after(self.count)
+    }
+
+    /// Sets the link: the block of the next map page (`next_swap`).
+    pub fn link(&mut self, next: u64)
+        ensures link { self.new.link ≡ next }
+        ensures entries { self.new.entries ≡ self.old.entries }
+    {
+        self.page.set_word(ENTRIES, next);
+    }
+
+    /// Returns the page as it stands.
+    pub fn page(&self) -> &Page
+        ensures page { result.now ≡ map_page self.now.entries self.now.link }
+        ensures room { length self.now.entries ≤ 511 }
+    {
+        &self.page
+    }
+}
+
+/// Returns whether a page with `count` entries has room for more.
+fn room_after(count: usize) -> Pushed
+    requires { count ≤ 511 }
+    ensures full { (result ≡ Pushed.Full) ↔ (count ≡ 511) }
+    ensures room { (result ≡ Pushed.Room) ↔ (count < 511) }
+{
+    if count == ENTRIES {
+        return Pushed::Full;
+    }
+    Pushed::Room
+}

@@ -1,9 +1,0 @@
-pub mod Ascending
-pub mod Ending
-pub mod Giving
-pub mod Numbering
-pub mod Opening
-pub mod Refusing
-pub mod NumberPage
-pub mod Since
-pub mod Turning

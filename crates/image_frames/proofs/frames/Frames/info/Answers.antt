@@ -1,5 +1,0 @@
-use Rattle.image_frames.proofs.Giving.{info_in_chain}
-use Rattle.image_frames.proofs.frames.Frames.info.Goals as goal
-
-pub returns-clause-chain : goal.returns-clause-chain
-returns-clause-chain c = λ content blocks header given h. info_in_chain content blocks header c.args.self.now given h

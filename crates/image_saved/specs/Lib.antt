@@ -1,4 +1,0 @@
-pub mod Ahead
-pub mod Formats
-pub mod Found
-pub mod Saved

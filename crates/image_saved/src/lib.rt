@@ -1,8 +1,0 @@
-//! The saved pages of an image, one by one, as its chain names them.
-#![tactic(auto)]
-
-mod finding;
-mod words;
-
-pub use finding::{Found, page_of, read_ahead, read_page};
-pub use words::{frame_of, has_page};

@@ -1,6 +1,0 @@
-use Rattle.std.proofs.Common.{◌≡◌, take}
-use Rattle.definitions.specs.FrameSets.{blocks}
-use Rattle.memory_bitmap.proofs.block_runs.Given as goal
-
-abbrev pub invariant-loop-zone : goal.invariant-loop-zone
-invariant-loop-zone l = l.runs.items ≡ blocks (take l.zone-index l.zones)

@@ -1,4 +1,0 @@
-pub mod Bits
-pub mod FrameSet
-pub mod Kept
-pub mod Left

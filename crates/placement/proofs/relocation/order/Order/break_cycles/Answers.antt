@@ -1,0 +1,17 @@
+use Rattle.std.specs.List.{range_with_len}
+use Rattle.definitions.specs.Moves.{cycles_over}
+use Rattle.placement.proofs.Taking.{HasPass-follows}
+use Rattle.placement.proofs.Walking.{up-more, cycles_over-append, follows_next}
+use Rattle.std.proofs.Common.{◌+◌, [], ◌∷◌}
+use Rattle.placement.proofs.relocation.order.Order.break_cycles.Goals as goal
+
+pub loop-p-preserved : goal.loop-p-preserved
+loop-p-preserved c =
+    let p = c.loop-p.p in
+    record {
+      pass = HasPass-follows c.loop-p.self c.emit_cycle.new.self (cycles_over c.args.bounce (p ∷ [])) c.emit_cycle.ensures.follows c.loop-p.invariant.pass;
+      room = c.emit_cycle.ensures.room;
+      follows =
+          follows_next (cycles_over c.args.bounce) (cycles_over-append c.args.bounce) c.args.self.now c.loop-p.self c.emit_cycle.new.self (range_with_len 0 p) (range_with_len 0 (p + 1)) p
+          (up-more p) c.loop-p.invariant.follows c.emit_cycle.ensures.follows;
+    }

@@ -1,0 +1,12 @@
+use Rattle.std.proofs.Common.{◌-◌, reverse}
+use Rattle.std.specs.List.{range_with_len}
+use Rattle.definitions.specs.Moves.{pass_over}
+use Rattle.placement.specs.Tables.{HasPass, HasRoom, Follows}
+use Rattle.placement.proofs.relocation.order.Order.descend.Given as goal
+
+abbrev pub invariant-loop-p : goal.invariant-loop-p
+invariant-loop-p l = record {
+  pass : HasPass l.self;
+  room : HasRoom l.self;
+  follows : Follows l.initial.self l.self (pass_over (reverse (range_with_len l.p (l.initial.self.top - l.p))));
+}

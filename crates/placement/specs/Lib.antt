@@ -1,0 +1,13 @@
+pub mod KeptPlacement
+pub mod Placed
+pub mod Plan
+pub mod Walk
+pub mod KeptList
+pub mod Listed
+pub mod Joining
+pub mod Pending
+pub mod Performing
+pub mod Relocation
+pub mod Tables
+pub mod KeptWaiting
+pub mod Waiting

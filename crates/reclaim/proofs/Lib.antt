@@ -1,2 +1,0 @@
-pub mod DropLaws
-pub mod DropCounts

@@ -1,4 +1,0 @@
-pub mod Copies
-pub mod Resumes
-pub mod Shrinks
-pub mod Sleeps

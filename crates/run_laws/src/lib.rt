@@ -1,2 +1,0 @@
-//! Laws of the runs of the plain machine.
-#![tactic(auto)]

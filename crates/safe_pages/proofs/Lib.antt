@@ -1,4 +1,0 @@
-pub mod Counting
-pub mod Planning
-pub mod Reserved
-pub mod Walks

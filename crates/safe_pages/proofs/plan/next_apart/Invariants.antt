@@ -1,8 +1,0 @@
-use Rattle.std.proofs.Common.{◌≡◌, slice_get}
-use Rattle.definitions.specs.Zones.{first_from}
-use Rattle.memory_bitmap.specs.Left.{left_in}
-use Rattle.safe_pages.specs.Plan.{without}
-use Rattle.safe_pages.proofs.plan.next_apart.Given as goal
-
-abbrev pub invariant-loop-p : goal.invariant-loop-p
-invariant-loop-p l = slice_get (without (left_in l.p-iterator) l.origs.members) 0 ≡ first_from (without l.free.members l.origs.members) l.from

@@ -1,4 +1,0 @@
-pub mod Kept
-pub mod Placed
-pub mod Plan
-pub mod Walk

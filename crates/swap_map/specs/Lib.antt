@@ -1,2 +1,0 @@
-pub mod MapPages
-pub mod Writer
