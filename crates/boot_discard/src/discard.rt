@@ -1,6 +1,5 @@
-use crate::marks::is_marked;
 use crate::step::{Left, Step};
-use image_format::take_back;
+use image_format::{is_marked, take_back};
 use page_core::Page;
 
 /// Gives up the image of an area: a value that its caller asks for the next call and tells how that call went.

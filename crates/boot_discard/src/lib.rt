@@ -3,7 +3,6 @@
 #![tactic(auto)]
 
 mod discard;
-mod marks;
 mod step;
 
 pub use discard::Discard;

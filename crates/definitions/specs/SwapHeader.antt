@@ -1,7 +1,8 @@
 -- The header block of a swap area, and the mark of an image over it (union swap_header, include/linux/swap.h;
 -- struct swsusp_header, kernel/power/swap.c).
 use Rattle.std.specs.Prelude.{◌≡◌, ℕ, ◌+◌, ◌*◌, ◌==◌, ◌||◌, ◌++◌, List, [], ◌∷◌, nat_lt, if◌then◌else◌, map, codes}
-use Rattle.std.specs.Prelude.{flat_map, bit_or, Option, find, length}
+use Rattle.std.specs.Prelude.{flat_map, bit_or, Option, find, length, nat_eq}
+use Rattle.std.specs.Cmp.Lexicographic.{pointwise}
 use Rattle.std.specs.List.{range_with_len}
 use Rattle.byteorder.specs.Endian.{little_bytes}
 use Rattle.definitions.specs.Bytes.{bytes_at, with_bytes, number_at, with_number, zero_page}
@@ -75,3 +76,7 @@ marked page first flags hw =
 -- The header block with its mark taken back (swsusp_check): orig_sig is the signature again. All other bytes stay.
 unfoldable pub taken_back : List ℕ → List ℕ
 taken_back page = with_bytes page 4086 (orig_sig_of page)
+
+-- a header block with its mark taken back if it has one, else unchanged (swsusp_unmark)
+abbrev pub unmarked_block : List ℕ → List ℕ
+unmarked_block header = if pointwise nat_eq (sig_of header) image_signature then taken_back header else header

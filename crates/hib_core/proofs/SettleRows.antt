@@ -15,7 +15,8 @@ use Rattle.plain_machine.specs.declared.held.Held.TheVariants.{No, Yes, Perhaps}
 use Rattle.plain_machine.specs.declared.no_swap.NoSwap.{NoSwap}
 use Rattle.plain_machine.specs.declared.reply.Left.TheVariants.{Same, Unsure}
 use Rattle.plain_machine.specs.declared.reply.Reply.TheVariants as reply
-use Rattle.protocol_laws.specs.Settling.{IsOnDisk, unmarked_block}
+use Rattle.definitions.specs.SwapHeader.{unmarked_block}
+use Rattle.protocol_laws.specs.Settling.{IsOnDisk}
 use Rattle.protocol_laws.specs.Slots.{IsMemoryOf}
 use Rattle.protocol_laws.specs.Undo.{with_held}
 use Rattle.protocol_laws.proofs.Settling.{settle_reads, settle_read_fails, settle_writes, settle_write_fails, settle_keeps_area, settle_syncs, settle_sync_fails}

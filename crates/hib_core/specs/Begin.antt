@@ -24,10 +24,11 @@ use Rattle.plain_machine.specs.declared.reply.Reply.TheVariants as reply
 use Rattle.machine.specs.Flights.{flights_in}
 use Rattle.machine.specs.Running.{AreReserved, slot_table_of}
 use Rattle.machine.specs.declared.machine.Machine.{Machine}
-use Rattle.hib_core.specs.Hibernation.{running_by, phase_told, runs_on}
+use Rattle.hib_core.specs.Hibernation.{running_by, phase_told}
 use Rattle.hib_core.specs.declared.hib.Hib.{Hib}
 use Rattle.hib_core.specs.declared.hib.Ending.{Ending}
 use Rattle.hib_core.specs.declared.hib.Stage.TheVariants as stage
+use Rattle.hib_core.specs.declared.phase.Phase.TheVariants as phase
 
 -- The plain machine refuses the hibernation with this reply in every running state that the machine stands for. A
 -- suspend is refused with the same reply.
@@ -43,7 +44,7 @@ IsRefusedWith r = (k of : ℕ) → r ≢ reply.More k of
 -- After a refusal, whatever the disk tells, all page frames are as before, free ones included, and the machine runs on.
 pub record LeavesFrames (frames frames' : Memory) (r : Reply) : Type 0 where
   pub same : frames' ≡ frames
-  pub stays : phase_told r ≡ runs_on
+  pub stays : phase_told r ≡ phase.Runs
 
 -- the lowest task with an unfinished operation
 abbrev pub busy_of : Machine → Option ℕ

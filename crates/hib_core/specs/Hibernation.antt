@@ -15,6 +15,8 @@ use Rattle.hib_core.specs.declared.hib.Hib.{Hib}
 use Rattle.hib_core.specs.declared.hib.Saving.{Saving}
 use Rattle.hib_core.specs.declared.hib.Stage.{Stage}
 use Rattle.hib_core.specs.declared.hib.Stage.TheVariants as stage
+use Rattle.hib_core.specs.declared.phase.Phase.{Phase}
+use Rattle.hib_core.specs.declared.phase.Phase.TheVariants as phase
 
 -- whether a hibernation with this ending is a suspend
 abbrev pub suspends_at : Ending → Bool
@@ -51,29 +53,23 @@ header_at (stage.TakeBack call header) = header
 header_at (stage.SettleWrite header) = header
 header_at _ = []
 
--- Whether the operation has a step to make. If it has none, the machine runs, is off, or sleeps.
-pub data Phase : Type 0 where
-  under_way : Phase
-  runs_on : Phase
-  switched_off : Phase
-  asleep : Phase
-
+-- whether there is a step to make, and what the machine is if there is none
 abbrev pub phase_at : Stage → Phase
-phase_at stage.Idle = runs_on
-phase_at stage.Over = switched_off
-phase_at stage.Asleep = asleep
-phase_at _ = under_way
+phase_at stage.Idle = phase.Runs
+phase_at stage.Over = phase.Off
+phase_at stage.Asleep = phase.Asleep
+phase_at _ = phase.UnderWay
 
 abbrev pub phase_of : Hib → Phase
 phase_of hib = phase_at hib.stage
 
 -- the phase after this reply to a begin or a step
 abbrev pub phase_told : Reply → Phase
-phase_told (reply.More k of) = under_way
-phase_told (reply.Undo call k) = under_way
-phase_told (reply.Hibernated n) = switched_off
-phase_told (reply.Asleep n) = asleep
-phase_told _ = runs_on
+phase_told (reply.More k of) = phase.UnderWay
+phase_told (reply.Undo call k) = phase.UnderWay
+phase_told (reply.Hibernated n) = phase.Off
+phase_told (reply.Asleep n) = phase.Asleep
+phase_told _ = phase.Runs
 
 -- what is held after a call that may have removed the image
 abbrev pub perhaps_held : Held → Held

@@ -7,7 +7,7 @@ ghost use Rattle.definitions.specs.Zones.{top};
 ghost use Rattle.definitions.specs.NumberPages.{meta_of};
 ghost use Rattle.hib_core.specs.Begin.{pages_of, steps_of, info_of};
 ghost use Rattle.plain_machine.specs.Machine.{IsOfTable};
-ghost use Rattle.hib_core.specs.Hibernation.{under_way, runs_on};
+ghost use Rattle.hib_core.specs.declared.phase.Phase.TheVariants as phase;
 ghost use Rattle.plain_machine.specs.declared.reply.Reply.TheVariants as reply;
 ghost use Rattle.protocol_laws.specs.Rows.{TellsNewFault};
 ghost use Rattle.machine.specs.Running.{slot_table_of};
@@ -50,7 +50,7 @@ impl Hib {
         requires ready { CanBegin machine.old frames.old runs.old self.old }
         ensures row { (c : Content) → IsBegun machine.old frames.old frames.new self.new job result c }
         ensures phase { phase_of self.new ≡ phase_told result }
-        ensures begun { (phase_told result ≡ under_way) ⊎ (phase_told result ≡ runs_on) }
+        ensures begun { (phase_told result ≡ phase.UnderWay) ⊎ (phase_told result ≡ phase.Runs) }
         ensures ready { IsBusy self.new → CanStep machine.new frames.new runs.new self.new }
         ensures machine { machine.new ≡ machine.old }
         ensures size { length frames.new ≡ length frames.old }
@@ -84,7 +84,7 @@ impl Hib {
         ensures row { (c : Content) →
             IsBegun machine.now frames.old frames.new self.new (saving ending format) result c }
         ensures phase { phase_of self.new ≡ phase_told result }
-        ensures begun { (phase_told result ≡ under_way) ⊎ (phase_told result ≡ runs_on) }
+        ensures begun { (phase_told result ≡ phase.UnderWay) ⊎ (phase_told result ≡ phase.Runs) }
         ensures ready { IsBusy self.new → CanStep machine.now frames.new runs.new self.new }
         ensures size { length frames.new ≡ length frames.old }
         ensures zones { self.new.snapshot.zones ≡ self.old.snapshot.zones }
@@ -113,7 +113,7 @@ impl Hib {
     ) -> Result<Counts, Reply>
         requires ready { CanBegin machine.now frames.now runs.now self.old }
         ensures refused { IfErr result (λ r. IsRefused machine.now frames.now format r) }
-        ensures stays { IfErr result (λ r. phase_told r ≡ runs_on) }
+        ensures stays { IfErr result (λ r. phase_told r ≡ phase.Runs) }
         ensures no_fault { IfErr result (λ r. TellsNewFault r → ⊥) }
         ensures counted { IfOk result (λ counts. IsCounted machine.now frames.now self.new counts) }
         ensures format { IfOk result (λ counts. self.new.snapshot.format ≡ format) }
@@ -175,6 +175,7 @@ impl Hib {
         let _blocks = machine.blocks;
         let (zones, table) = (machine.hw.zones(), machine.hw.frame_table());
         self.snapshot.copy(frames, zones, table);
+        // The prover knows that each page frame has 4096 bytes only once the frames are read.
         let _ = frames.len();
         let info = info_of(&machine.hw, counts);
         let (slots, map) = (slot_table(&machine.hw), machine.hw.extents());

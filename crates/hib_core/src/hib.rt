@@ -1,8 +1,9 @@
-ghost use Rattle.std.specs.Prelude.{◌≡◌, false, ◌<◌, ◌+◌, IfOk};
+ghost use Rattle.std.specs.Prelude.{◌≡◌, ◌<◌, ◌+◌, IfOk};
 ghost use Rattle.plain_machine.specs.declared.reply.Reply.TheVariants as reply;
 ghost use Rattle.hib_core.specs.Hibernation.{IsIdle};
 ghost use Rattle.sector_disk.specs.Called.{Called, OneCall};
 
+use crate::Phase;
 use frame_arena::Frames;
 use image_write::Writer;
 use machine::{Hardware, Machine};
@@ -106,14 +107,10 @@ impl Saving {
 }
 
 impl Hib {
-    ghost use Rattle.plain_machine.specs.declared.event.Event.TheVariants as event;
-    ghost use Rattle.plain_machine.specs.declared.event.Actor.TheVariants as actor;
-    ghost use Rattle.protocol_laws.specs.Rows.{TellsNewFault, is_idle};
-    ghost use Rattle.hib_core.specs.Hibernation.{phase_of, phase_told};
-    ghost use Rattle.hib_core.specs.Ready.{CanStep, IsBusy, IsSameMachine};
-    ghost use Rattle.hib_core.specs.Leaving.{Leaves, change_of};
-    ghost use Rattle.hib_core.specs.Row.{SimulatesWhereTold};
-    ghost use Rattle.hib_core.specs.StepsLeft.{saving_steps_left};
+    ghost use Rattle.protocol_laws.specs.Rows.{TellsNewFault};
+    ghost use Rattle.hib_core.specs.Hibernation.{phase_of};
+    ghost use Rattle.hib_core.specs.Ready.{CanStep, IsBusy};
+    ghost use Rattle.hib_core.specs.Stepped.{HasStepped};
 
     /// Creates an idle `Hib` with enough memory for every hibernation of this machine.
     pub fn create(alloc: Global, hw: &Hardware) -> Result<Hib, NoMemory>
@@ -124,6 +121,27 @@ impl Hib {
             snapshot,
             stage: Stage::Idle,
         })
+    }
+
+    /// Returns whether the operation has a step to make, and what the machine is if it has none.
+    pub fn phase(&self) -> Phase
+        ensures { result ≡ phase_of self.now }
+    {
+        match self.stage {
+            Stage::Idle => Phase::Runs,
+            Stage::Over => Phase::Off,
+            Stage::Asleep => Phase::Asleep,
+            Stage::Write(..)
+            | Stage::Sync(_)
+            | Stage::Read(_)
+            | Stage::Mark(..)
+            | Stage::End(..)
+            | Stage::TakeBack(..)
+            | Stage::EndUndo(_)
+            | Stage::SettleRead
+            | Stage::SettleWrite(_)
+            | Stage::SettleSync => Phase::UnderWay,
+        }
     }
 
     /// Makes the next step, with one call of the disk.
@@ -137,15 +155,8 @@ impl Hib {
         requires ready { CanStep machine.old frames.old runs.old self.old }
         requires blocks { D.block_count disk.old ≡ machine.old.blocks }
         requires busy { IsBusy self.old }
-        ensures row { SimulatesWhereTold machine.old frames.old self.old machine.new frames.new self.new
-            (event.Step actor.Core) result (D.content disk.old) (D.content disk.new) }
-        ensures phase { phase_of self.new ≡ phase_told result }
-        ensures zones { self.new.snapshot.zones ≡ self.old.snapshot.zones }
-        ensures fewer { saving_steps_left self.new < saving_steps_left self.old }
-        ensures works { is_idle result ≡ false }
-        ensures ready { CanStep machine.new frames.new runs.new self.new }
-        ensures machine { IsSameMachine machine.old machine.new }
-        ensures memory { Leaves (change_of result self.old.stage) machine.old.hw frames.old frames.new }
+        ensures stepped { HasStepped machine.old frames.old self.old machine.new frames.new runs.new self.new result
+            (D.content disk.old) (D.content disk.new) }
         ensures called { Called D.Disk OneCall (TellsNewFault result) disk.old disk.new }
     {
         match self.stage {

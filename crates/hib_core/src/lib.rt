@@ -6,8 +6,10 @@
 mod begin;
 mod hib;
 mod mark;
+mod phase;
 mod settle;
 mod undo;
 mod write;
 
 pub use hib::{Hib, Job};
+pub use phase::Phase;

@@ -1,5 +1,5 @@
-ghost use Rattle.std.specs.Prelude.{◌≡◌, false, ℕ, List, ◌+◌, ◌<◌};
-ghost use Rattle.protocol_laws.specs.Rows.{TellsNewFault, is_idle};
+ghost use Rattle.std.specs.Prelude.{◌≡◌, ℕ, List};
+ghost use Rattle.protocol_laws.specs.Rows.{TellsNewFault};
 ghost use Rattle.plain_machine.specs.declared.reply.Reply.TheVariants as reply;
 ghost use Rattle.plain_machine.specs.Mark.{mark_flags};
 ghost use Rattle.sector_disk.specs.Called.{Called, OneCall};
@@ -18,15 +18,10 @@ use swap_slots::FreeRuns;
 
 // The mark (mark_swapfiles, kernel/power/swap.c).
 impl Hib {
-    ghost use Rattle.plain_machine.specs.declared.event.Event.TheVariants as event;
-    ghost use Rattle.plain_machine.specs.declared.event.Actor.TheVariants as actor;
     ghost use Rattle.hib_core.specs.declared.hib.Saving.{Saving};
     ghost use Rattle.hib_core.specs.declared.hib.Stage.TheVariants as stage;
-    ghost use Rattle.hib_core.specs.Hibernation.{phase_of, phase_told};
     ghost use Rattle.hib_core.specs.Ready.{CanStep};
-    ghost use Rattle.hib_core.specs.Leaving.{Leaves, change_of};
-    ghost use Rattle.hib_core.specs.Row.{SimulatesWhereTold};
-    ghost use Rattle.hib_core.specs.StepsLeft.{saving_steps_left};
+    ghost use Rattle.hib_core.specs.Stepped.{HasStepped};
 
     /// Writes the header block with the mark. If that fails, the mark may or may not be on the disk, and an undo
     /// begins.
@@ -40,14 +35,8 @@ impl Hib {
         requires ready { CanStep machine.now frames.now runs.now self.old }
         requires blocks { D.block_count disk.old ≡ machine.now.blocks }
         requires at { (saving : Saving) × (header : List ℕ) × (self.old.stage ≡ stage.Mark saving header) }
-        ensures row { SimulatesWhereTold machine.now frames.now self.old machine.now frames.now self.new
-            (event.Step actor.Core) result (D.content disk.old) (D.content disk.new) }
-        ensures phase { phase_of self.new ≡ phase_told result }
-        ensures zones { self.new.snapshot.zones ≡ self.old.snapshot.zones }
-        ensures fewer { saving_steps_left self.new < saving_steps_left self.old }
-        ensures works { is_idle result ≡ false }
-        ensures ready { CanStep machine.now frames.now runs.now self.new }
-        ensures memory { Leaves (change_of result self.old.stage) machine.now.hw frames.now frames.now }
+        ensures stepped { HasStepped machine.now frames.now self.old machine.now frames.now runs.now self.new result
+            (D.content disk.old) (D.content disk.new) }
         ensures called { Called D.Disk OneCall (TellsNewFault result) disk.old disk.new }
     {
         let Stage::Mark(saving, header) = &self.stage else {
@@ -78,14 +67,8 @@ impl Hib {
         requires ready { CanStep machine.now frames.now runs.now self.old }
         requires blocks { D.block_count disk.old ≡ machine.now.blocks }
         requires at { (saving : Saving) × (header : List ℕ) × (self.old.stage ≡ stage.End saving header) }
-        ensures row { SimulatesWhereTold machine.now frames.now self.old machine.now frames.now self.new
-            (event.Step actor.Core) result (D.content disk.old) (D.content disk.new) }
-        ensures phase { phase_of self.new ≡ phase_told result }
-        ensures zones { self.new.snapshot.zones ≡ self.old.snapshot.zones }
-        ensures fewer { saving_steps_left self.new < saving_steps_left self.old }
-        ensures works { is_idle result ≡ false }
-        ensures ready { CanStep machine.now frames.now runs.now self.new }
-        ensures memory { Leaves (change_of result self.old.stage) machine.now.hw frames.now frames.now }
+        ensures stepped { HasStepped machine.now frames.now self.old machine.now frames.now runs.now self.new result
+            (D.content disk.old) (D.content disk.new) }
         ensures called { Called D.Disk OneCall (TellsNewFault result) disk.old disk.new }
     {
         let Stage::End(saving, header) = replace(&mut self.stage, Stage::Idle) else {

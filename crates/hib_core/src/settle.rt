@@ -1,16 +1,16 @@
-ghost use Rattle.std.specs.Prelude.{◌≡◌, false, ℕ, List, ◌<◌, ◌⊎◌, nat_eq};
+ghost use Rattle.std.specs.Prelude.{◌≡◌, ℕ, List, ◌⊎◌, nat_eq};
 ghost use Rattle.std.specs.Cmp.Lexicographic.{pointwise};
 ghost use Rattle.definitions.specs.Disk.{Content};
 ghost use Rattle.definitions.specs.SwapHeader.{sig_of, image_signature};
-ghost use Rattle.protocol_laws.specs.Rows.{TellsNewFault, is_idle};
-ghost use Rattle.protocol_laws.specs.Settling.{unmarked_block};
-ghost use Rattle.hib_core.specs.Hibernation.{perhaps_held, under_way, runs_on};
+ghost use Rattle.protocol_laws.specs.Rows.{TellsNewFault};
+ghost use Rattle.hib_core.specs.Hibernation.{perhaps_held};
+ghost use Rattle.hib_core.specs.declared.phase.Phase.TheVariants as phase;
 ghost use Rattle.sector_disk.specs.Called.{Called, OneCall};
 
 use crate::Hib;
 use crate::hib::Stage;
 use frame_arena::Frames;
-use image_format::{AreaKind, take_back};
+use image_format::unmark;
 use machine::Machine;
 use page_core::{Failed, Page};
 use plain_machine::{Held, Left, Reply};
@@ -23,23 +23,20 @@ const STEPS: u32 = 3;
 // Settling: takes the mark of a held image back while the machine runs (swsusp_unmark, kernel/power/swap.c; that it is
 // a job by itself is own).
 impl Hib {
-    ghost use Rattle.plain_machine.specs.declared.event.Event.TheVariants as event;
-    ghost use Rattle.plain_machine.specs.declared.event.Actor.TheVariants as actor;
     ghost use Rattle.hib_core.specs.declared.hib.Stage.TheVariants as stage;
     ghost use Rattle.hib_core.specs.declared.hib.Job.TheVariants as job;
     ghost use Rattle.hib_core.specs.Begin.{IsRefusedWith, LeavesFrames};
     ghost use Rattle.hib_core.specs.Hibernation.{phase_of, phase_told};
-    ghost use Rattle.hib_core.specs.Ready.{CanBegin, CanStep, IsBusy, IsSameMachine};
-    ghost use Rattle.hib_core.specs.Leaving.{Leaves, change_of};
-    ghost use Rattle.hib_core.specs.Row.{SimulatesWhereTold, IsBegun};
-    ghost use Rattle.hib_core.specs.StepsLeft.{saving_steps_left};
+    ghost use Rattle.hib_core.specs.Ready.{CanBegin, CanStep, IsBusy};
+    ghost use Rattle.hib_core.specs.Row.{IsBegun};
+    ghost use Rattle.hib_core.specs.Stepped.{HasStepped};
 
     /// Begins a settling. Refuses it if a task has an unfinished operation, or if no image is held.
     pub(crate) fn settle(&mut self, machine: &Machine, frames: &Frames, runs: &FreeRuns) -> Reply
         requires ready { CanBegin machine.now frames.now runs.now self.old }
         ensures row { (c : Content) → IsBegun machine.now frames.now frames.now self.new job.Settle result c }
         ensures phase { phase_of self.new ≡ phase_told result }
-        ensures begun { (phase_told result ≡ under_way) ⊎ (phase_told result ≡ runs_on) }
+        ensures begun { (phase_told result ≡ phase.UnderWay) ⊎ (phase_told result ≡ phase.Runs) }
         ensures ready { IsBusy self.new → CanStep machine.now frames.now runs.now self.new }
         ensures zones { self.new.snapshot.zones ≡ self.old.snapshot.zones }
         ensures no_fault { TellsNewFault result → ⊥ }
@@ -71,14 +68,8 @@ impl Hib {
         requires ready { CanStep machine.now frames.now runs.now self.old }
         requires blocks { D.block_count disk.old ≡ machine.now.blocks }
         requires at { self.old.stage ≡ stage.SettleRead }
-        ensures row { SimulatesWhereTold machine.now frames.now self.old machine.now frames.now self.new
-            (event.Step actor.Core) result (D.content disk.old) (D.content disk.new) }
-        ensures phase { phase_of self.new ≡ phase_told result }
-        ensures zones { self.new.snapshot.zones ≡ self.old.snapshot.zones }
-        ensures fewer { saving_steps_left self.new < saving_steps_left self.old }
-        ensures works { is_idle result ≡ false }
-        ensures ready { CanStep machine.now frames.now runs.now self.new }
-        ensures memory { Leaves (change_of result self.old.stage) machine.now.hw frames.now frames.now }
+        ensures stepped { HasStepped machine.now frames.now self.old machine.now frames.now runs.now self.new result
+            (D.content disk.old) (D.content disk.new) }
         ensures called { Called D.Disk OneCall (TellsNewFault result) disk.old disk.new }
     {
         let block = machine.hw.extents().block(0);
@@ -106,15 +97,8 @@ impl Hib {
         requires ready { CanStep machine.old frames.now runs.now self.old }
         requires blocks { D.block_count disk.old ≡ machine.old.blocks }
         requires at { (header : List ℕ) × (self.old.stage ≡ stage.SettleWrite header) }
-        ensures row { SimulatesWhereTold machine.old frames.now self.old machine.new frames.now self.new
-            (event.Step actor.Core) result (D.content disk.old) (D.content disk.new) }
-        ensures phase { phase_of self.new ≡ phase_told result }
-        ensures zones { self.new.snapshot.zones ≡ self.old.snapshot.zones }
-        ensures fewer { saving_steps_left self.new < saving_steps_left self.old }
-        ensures works { is_idle result ≡ false }
-        ensures ready { CanStep machine.new frames.now runs.now self.new }
-        ensures memory { Leaves (change_of result self.old.stage) machine.old.hw frames.now frames.now }
-        ensures machine { IsSameMachine machine.old machine.new }
+        ensures stepped { HasStepped machine.old frames.now self.old machine.new frames.now runs.now self.new result
+            (D.content disk.old) (D.content disk.new) }
         ensures called { Called D.Disk OneCall (TellsNewFault result) disk.old disk.new }
     {
         let Stage::SettleWrite(header) = &mut self.stage else {
@@ -122,7 +106,6 @@ impl Hib {
         };
         let block = machine.hw.extents().block(0);
         unmark(header);
-        let _ = header.as_bytes();
         match disk.write(block as u32, header) {
             Ok(()) => {
                 self.stage = Stage::SettleSync;
@@ -146,15 +129,8 @@ impl Hib {
         requires ready { CanStep machine.old frames.old runs.old self.old }
         requires blocks { D.block_count disk.old ≡ machine.old.blocks }
         requires at { self.old.stage ≡ stage.SettleSync }
-        ensures row { SimulatesWhereTold machine.old frames.old self.old machine.new frames.new self.new
-            (event.Step actor.Core) result (D.content disk.old) (D.content disk.new) }
-        ensures phase { phase_of self.new ≡ phase_told result }
-        ensures zones { self.new.snapshot.zones ≡ self.old.snapshot.zones }
-        ensures fewer { saving_steps_left self.new < saving_steps_left self.old }
-        ensures works { is_idle result ≡ false }
-        ensures ready { CanStep machine.new frames.new runs.new self.new }
-        ensures memory { Leaves (change_of result self.old.stage) machine.old.hw frames.old frames.new }
-        ensures machine { IsSameMachine machine.old machine.new }
+        ensures stepped { HasStepped machine.old frames.old self.old machine.new frames.new runs.new self.new result
+            (D.content disk.old) (D.content disk.new) }
         ensures called { Called D.Disk OneCall (TellsNewFault result) disk.old disk.new }
     {
         match disk.sync() {
@@ -178,22 +154,6 @@ impl Hib {
         self.stage = Stage::Idle;
         machine.held = perhaps(machine.held);
     }
-}
-
-/// Takes the mark of a header block back, if it carries one.
-fn unmark(header: &mut Page)
-    ensures { header.new ≡ unmarked_block header.old }
-{
-    if is_marked(header) {
-        *header = take_back(header);
-    }
-}
-
-/// Returns whether a header block carries the signature of an image.
-fn is_marked(header: &Page) -> bool
-    ensures { result ≡ pointwise nat_eq (sig_of header.now) image_signature }
-{
-    matches!(AreaKind::read(header), AreaKind::Image(_))
 }
 
 /// Returns what is held after a call that may have removed the image.

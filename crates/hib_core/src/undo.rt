@@ -1,4 +1,4 @@
-ghost use Rattle.std.specs.Prelude.{◌≡◌, false, ℕ, List, ◌<◌};
+ghost use Rattle.std.specs.Prelude.{◌≡◌, false, ℕ, List};
 ghost use Rattle.protocol_laws.specs.Rows.{TellsNewFault, is_idle};
 ghost use Rattle.plain_machine.specs.Step.{undone_fault};
 ghost use Rattle.plain_machine.specs.declared.held.Held.TheVariants.{Perhaps};
@@ -17,15 +17,10 @@ use swap_slots::FreeRuns;
 
 // Undoing a mark whose write or sync failed (swsusp_unmark, kernel/power/swap.c).
 impl Hib {
-    ghost use Rattle.plain_machine.specs.declared.event.Event.TheVariants as event;
-    ghost use Rattle.plain_machine.specs.declared.event.Actor.TheVariants as actor;
     ghost use Rattle.plain_machine.specs.declared.reply.UndoCall.{UndoCall};
     ghost use Rattle.hib_core.specs.declared.hib.Stage.TheVariants as stage;
-    ghost use Rattle.hib_core.specs.Hibernation.{phase_of, phase_told};
-    ghost use Rattle.hib_core.specs.Ready.{CanStep, IsSameMachine};
-    ghost use Rattle.hib_core.specs.Leaving.{Leaves, change_of};
-    ghost use Rattle.hib_core.specs.Row.{SimulatesWhereTold};
-    ghost use Rattle.hib_core.specs.StepsLeft.{saving_steps_left};
+    ghost use Rattle.hib_core.specs.Ready.{CanStep};
+    ghost use Rattle.hib_core.specs.Stepped.{HasStepped};
 
     /// Writes the header block with the mark taken back.
     pub(crate) fn take_back<D: Disk>(
@@ -38,15 +33,8 @@ impl Hib {
         requires ready { CanStep machine.old frames.now runs.now self.old }
         requires blocks { D.block_count disk.old ≡ machine.old.blocks }
         requires at { (call : UndoCall) × (header : List ℕ) × (self.old.stage ≡ stage.TakeBack call header) }
-        ensures row { SimulatesWhereTold machine.old frames.now self.old machine.new frames.now self.new
-            (event.Step actor.Core) result (D.content disk.old) (D.content disk.new) }
-        ensures phase { phase_of self.new ≡ phase_told result }
-        ensures zones { self.new.snapshot.zones ≡ self.old.snapshot.zones }
-        ensures fewer { saving_steps_left self.new < saving_steps_left self.old }
-        ensures works { is_idle result ≡ false }
-        ensures ready { CanStep machine.new frames.now runs.now self.new }
-        ensures memory { Leaves (change_of result self.old.stage) machine.old.hw frames.now frames.now }
-        ensures machine { IsSameMachine machine.old machine.new }
+        ensures stepped { HasStepped machine.old frames.now self.old machine.new frames.now runs.now self.new result
+            (D.content disk.old) (D.content disk.new) }
         ensures called { Called D.Disk OneCall (TellsNewFault result) disk.old disk.new }
     {
         let Stage::TakeBack(call, header) = &self.stage else {
@@ -55,8 +43,8 @@ impl Hib {
         let call = *call;
         let block = machine.hw.extents().block(0);
         let back = take_back(header);
+        // The prover knows that a page has 4096 bytes only once it is read.
         let _ = header.as_bytes();
-        let _ = back.as_bytes();
         match disk.write(block as u32, &back) {
             Ok(()) => {
                 self.stage = Stage::EndUndo(call);
@@ -78,15 +66,8 @@ impl Hib {
         requires ready { CanStep machine.old frames.old runs.old self.old }
         requires blocks { D.block_count disk.old ≡ machine.old.blocks }
         requires at { self.old.stage ≡ stage.EndUndo call }
-        ensures row { SimulatesWhereTold machine.old frames.old self.old machine.new frames.new self.new
-            (event.Step actor.Core) result (D.content disk.old) (D.content disk.new) }
-        ensures phase { phase_of self.new ≡ phase_told result }
-        ensures zones { self.new.snapshot.zones ≡ self.old.snapshot.zones }
-        ensures fewer { saving_steps_left self.new < saving_steps_left self.old }
-        ensures works { is_idle result ≡ false }
-        ensures ready { CanStep machine.new frames.new runs.new self.new }
-        ensures memory { Leaves (change_of result self.old.stage) machine.old.hw frames.old frames.new }
-        ensures machine { IsSameMachine machine.old machine.new }
+        ensures stepped { HasStepped machine.old frames.old self.old machine.new frames.new runs.new self.new result
+            (D.content disk.old) (D.content disk.new) }
         ensures called { Called D.Disk OneCall (TellsNewFault result) disk.old disk.new }
     {
         match disk.sync() {

@@ -1,8 +1,7 @@
-ghost use Rattle.std.specs.Prelude.{◌≡◌, false, ℕ, List, ◌+◌, ◌<◌, All, length};
+ghost use Rattle.std.specs.Prelude.{◌≡◌, ℕ, List, ◌+◌, ◌<◌, All, length};
 ghost use Rattle.definitions.specs.Bytes.{IsPage};
-ghost use Rattle.protocol_laws.specs.Rows.{TellsNewFault, is_idle};
+ghost use Rattle.protocol_laws.specs.Rows.{TellsNewFault};
 ghost use Rattle.plain_machine.specs.Shows.{seen_frames};
-ghost use Rattle.plain_machine.specs.declared.reply.Reply.TheVariants as reply;
 ghost use Rattle.swap_slots.specs.Table.{LiesIn, Matches};
 ghost use Rattle.machine.specs.Running.{slot_table_of};
 ghost use Rattle.image_format.specs.AreaKind.{area_kind};
@@ -29,15 +28,10 @@ use swap_slots::FreeRuns;
 // The writes of the pages and maps, and the steps from there to the mark (save_image and swap_writer_finish,
 // kernel/power/swap.c).
 impl Hib {
-    ghost use Rattle.plain_machine.specs.declared.event.Event.TheVariants as event;
-    ghost use Rattle.plain_machine.specs.declared.event.Actor.TheVariants as actor;
     ghost use Rattle.hib_core.specs.declared.hib.Stage.TheVariants as stage;
-    ghost use Rattle.hib_core.specs.Hibernation.{phase_of, phase_told};
     ghost use Rattle.hib_core.specs.Ready.{CanStep};
     ghost use Rattle.image_write.specs.Writing.{Writing};
-    ghost use Rattle.hib_core.specs.Leaving.{Leaves, change_of};
-    ghost use Rattle.hib_core.specs.Row.{SimulatesWhereTold};
-    ghost use Rattle.hib_core.specs.StepsLeft.{saving_steps_left};
+    ghost use Rattle.hib_core.specs.Stepped.{HasStepped};
 
     /// Writes the next page or map.
     pub(crate) fn write_next<D: Disk>(
@@ -50,14 +44,8 @@ impl Hib {
         requires ready { CanStep machine.now frames.old runs.old self.old }
         requires blocks { D.block_count disk.old ≡ machine.now.blocks }
         requires at { (saving : Saving) × (writer : Writing) × (self.old.stage ≡ stage.Write saving writer) }
-        ensures row { SimulatesWhereTold machine.now frames.old self.old machine.now frames.new self.new
-            (event.Step actor.Core) result (D.content disk.old) (D.content disk.new) }
-        ensures phase { phase_of self.new ≡ phase_told result }
-        ensures zones { self.new.snapshot.zones ≡ self.old.snapshot.zones }
-        ensures fewer { saving_steps_left self.new < saving_steps_left self.old }
-        ensures works { is_idle result ≡ false }
-        ensures ready { CanStep machine.now frames.new runs.new self.new }
-        ensures memory { Leaves (change_of result self.old.stage) machine.now.hw frames.old frames.new }
+        ensures stepped { HasStepped machine.now frames.old self.old machine.now frames.new runs.new self.new result
+            (D.content disk.old) (D.content disk.new) }
         ensures called { Called D.Disk OneCall (TellsNewFault result) disk.old disk.new }
     {
         let Stage::Write(saving, writer) = &mut self.stage else {
@@ -92,14 +80,8 @@ impl Hib {
         requires ready { CanStep machine.now frames.old runs.old self.old }
         requires blocks { D.block_count disk.old ≡ machine.now.blocks }
         requires at { self.old.stage ≡ stage.Sync saving }
-        ensures row { SimulatesWhereTold machine.now frames.old self.old machine.now frames.new self.new
-            (event.Step actor.Core) result (D.content disk.old) (D.content disk.new) }
-        ensures phase { phase_of self.new ≡ phase_told result }
-        ensures zones { self.new.snapshot.zones ≡ self.old.snapshot.zones }
-        ensures fewer { saving_steps_left self.new < saving_steps_left self.old }
-        ensures works { is_idle result ≡ false }
-        ensures ready { CanStep machine.now frames.new runs.new self.new }
-        ensures memory { Leaves (change_of result self.old.stage) machine.now.hw frames.old frames.new }
+        ensures stepped { HasStepped machine.now frames.old self.old machine.now frames.new runs.new self.new result
+            (D.content disk.old) (D.content disk.new) }
         ensures called { Called D.Disk OneCall (TellsNewFault result) disk.old disk.new }
     {
         match disk.sync() {
@@ -127,14 +109,8 @@ impl Hib {
         requires ready { CanStep machine.now frames.old runs.old self.old }
         requires blocks { D.block_count disk.old ≡ machine.now.blocks }
         requires at { self.old.stage ≡ stage.Read saving }
-        ensures row { SimulatesWhereTold machine.now frames.old self.old machine.now frames.new self.new
-            (event.Step actor.Core) result (D.content disk.old) (D.content disk.new) }
-        ensures phase { phase_of self.new ≡ phase_told result }
-        ensures zones { self.new.snapshot.zones ≡ self.old.snapshot.zones }
-        ensures fewer { saving_steps_left self.new < saving_steps_left self.old }
-        ensures works { is_idle result ≡ false }
-        ensures ready { CanStep machine.now frames.new runs.new self.new }
-        ensures memory { Leaves (change_of result self.old.stage) machine.now.hw frames.old frames.new }
+        ensures stepped { HasStepped machine.now frames.old self.old machine.now frames.new runs.new self.new result
+            (D.content disk.old) (D.content disk.new) }
         ensures called { Called D.Disk OneCall (TellsNewFault result) disk.old disk.new }
     {
         let block = machine.hw.extents().block(0);
@@ -169,6 +145,7 @@ impl Hib {
         ensures size { length frames.new ≡ length frames.old }
         ensures matches { Matches frames.new (slot_table_of machine.now.hw) runs.new }
     {
+        // The prover knows that each page frame has 4096 bytes only once the frames are read.
         let _ = frames.len();
         slot_table(&machine.hw).give_image(frames, runs);
         self.stage = Stage::Idle;
@@ -201,6 +178,7 @@ fn write_step<D: Disk>(
     ensures kept { KeepsSlots writer.old.table frames.old frames.new runs.old runs.new }
     ensures called { Called D.Disk OneCall (result ≡ WriteStep.Fault) disk.old disk.new }
 {
+    // The prover knows that each page frame has 4096 bytes only once the frames are read.
     let _ = frames.len();
     let sets = Sets {
         origs: snapshot.origs(),

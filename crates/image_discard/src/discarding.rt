@@ -3,8 +3,7 @@ ghost use Rattle.definitions.specs.Disk.{DiskImage, HasRisen};
 ghost use Rattle.image_discard.specs.Crashes.{IsCrash};
 ghost use Rattle.image_discard.specs.Discards.{Ends, Fails, LeavesNoImage};
 
-use crate::marks::is_marked;
-use image_format::take_back;
+use image_format::{is_marked, take_back};
 use page_core::Page;
 use sector_disk::Disk;
 use thiserror::Error;

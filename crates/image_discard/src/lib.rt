@@ -2,6 +2,5 @@
 #![tactic(auto)]
 
 mod discarding;
-mod marks;
 
 pub use discarding::{Discarded, Fault, discard};

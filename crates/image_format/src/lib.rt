@@ -10,5 +10,5 @@ mod signature;
 pub use map::{ChainFault, MapReader, MapWriter, Pushed};
 pub use signature::{
     Area, AreaFault, AreaKind, MOST_BADPAGES, Mark, SF_HW_SIG, SF_NOCOMPRESS_MODE, SF_SKIPS_ZEROS,
-    area_page, mark, take_back,
+    area_page, is_marked, mark, take_back, unmark,
 };

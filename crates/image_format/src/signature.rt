@@ -7,4 +7,4 @@ mod signatures;
 
 pub use area::{Area, AreaFault, AreaKind, Mark, area_page};
 pub use layout::{MOST_BADPAGES, SF_HW_SIG, SF_NOCOMPRESS_MODE, SF_SKIPS_ZEROS};
-pub use marking::{mark, take_back};
+pub use marking::{is_marked, mark, take_back, unmark};

@@ -2,7 +2,7 @@
 use Rattle.std.proofs.Common.{◌≡◌, ℕ, ◌/◌, ◌⊎◌, inl, inr, List, [], take, refl, sym, ap, ◌∙◌, subst, arith}
 use Rattle.definitions.specs.Bytes.{IsPage}
 use Rattle.definitions.specs.Disk as disk
-use Rattle.definitions.specs.SwapHeader.{IsMarked, sig_of}
+use Rattle.definitions.specs.SwapHeader.{IsMarked, sig_of, unmarked_block}
 use Rattle.definitions.proofs.DiskLaws.{as_it_reads-settled, IsImage-after_sync, IsImage-as_it_reads}
 use Rattle.image_laws.specs.ImageBlocks.{Tries}
 use Rattle.plain_machine.specs.Machine.{Hardware, IsHardware, block_of_slot}
@@ -12,7 +12,7 @@ use Rattle.plain_machine.specs.Shows.{WorldView, ShowsRunning}
 use Rattle.plain_machine.specs.Stands.{StandsBehind, StandsOn, KeepsHeader, IsHeld, IsOwn, IsFlight, HasFlights, NamesOnly, NamesHeld}
 use Rattle.plain_machine.specs.State.{Running, Held, nothing, sure, maybe, own, other, perhaps}
 use Rattle.protocol_laws.specs.Rows.{IsSameArea}
-use Rattle.protocol_laws.specs.Settling.{IsOnDisk, unmarked_block}
+use Rattle.protocol_laws.specs.Settling.{IsOnDisk}
 use Rattle.protocol_laws.specs.Undo.{with_held}
 use Rattle.protocol_laws.proofs.AreaKept.{kept_by_header}
 use Rattle.protocol_laws.proofs.Back.{slots_read}

@@ -5,7 +5,8 @@ use Rattle.plain_machine.specs.Machine.{Hardware}
 use Rattle.plain_machine.specs.Shows.{WorldView}
 use Rattle.plain_machine.specs.Stands.{Stands}
 use Rattle.plain_machine.specs.State.{settling, Running, perhaps}
-use Rattle.protocol_laws.specs.Settling.{IsOnDisk, unmarked_block, SettleBegins, SettleReads, SettleReadFails, SettleWrites, SettleWriteFails, SettleKeepsArea, SettleSyncs, SettleSyncFails}
+use Rattle.definitions.specs.SwapHeader.{unmarked_block}
+use Rattle.protocol_laws.specs.Settling.{IsOnDisk, SettleBegins, SettleReads, SettleReadFails, SettleWrites, SettleWriteFails, SettleKeepsArea, SettleSyncs, SettleSyncFails}
 use Rattle.protocol_laws.proofs.Behind.{waits_on, unmarking, area_tried, waits_tried, runs_unsure, runs_synced}
 use Rattle.protocol_laws.proofs.Unmarking.{IsUnmarking, reads_unmarked}
 

@@ -6,7 +6,8 @@ use Rattle.plain_machine.specs.Image.{Image}
 use Rattle.plain_machine.specs.Shows.{WorldView}
 use Rattle.plain_machine.specs.Stands.{Stands, IsSaved}
 use Rattle.plain_machine.specs.State.{waking, Running, Held, perhaps}
-use Rattle.protocol_laws.specs.Settling.{IsOnDisk, unmarked_block}
+use Rattle.definitions.specs.SwapHeader.{unmarked_block}
+use Rattle.protocol_laws.specs.Settling.{IsOnDisk}
 use Rattle.protocol_laws.specs.Waking.{WakeBegins, WakeReads, WakeReadFails, WakeWrites, WakeWriteFails, WakeKeepsArea, WakeSyncs, WakeSyncFails}
 use Rattle.protocol_laws.proofs.Behind.{waits_on, unmarking, area_tried, waits_tried, names_perhaps, runs_synced}
 use Rattle.protocol_laws.proofs.Unmarking.{IsUnmarking, reads_unmarked}

@@ -1,10 +1,9 @@
 -- What a settling's disk calls do to the state: block(0) is read, written with its mark taken back if it has one, and
 -- synced (swsusp_unmark, kernel/power/swap.c; that a machine does it while it runs is own). It doesn't matter whose the
 -- image was.
-use Rattle.std.specs.Prelude.{◌≡◌, ◌<◌, ℕ, List, [], nat_eq, if◌then◌else◌}
-use Rattle.std.specs.Cmp.Lexicographic.{pointwise}
+use Rattle.std.specs.Prelude.{◌≡◌, ◌<◌, ℕ, List, []}
 use Rattle.definitions.specs.Disk.{Content, IsContent, Writes, FailsToWrite, Syncs, as_it_reads}
-use Rattle.definitions.specs.SwapHeader.{sig_of, image_signature, taken_back}
+use Rattle.definitions.specs.SwapHeader.{unmarked_block}
 use Rattle.image_laws.specs.ImageBlocks.{Tries}
 use Rattle.plain_machine.specs.Machine.{Hardware, IsHardware, block_of_slot}
 use Rattle.plain_machine.specs.Chain.{header_of}
@@ -13,10 +12,6 @@ use Rattle.plain_machine.specs.Stands.{Stands, NamesOnly, NamesHeld}
 use Rattle.plain_machine.specs.State.{on, settling, Running, nothing, perhaps}
 use Rattle.protocol_laws.specs.Rows.{IsSameArea}
 use Rattle.protocol_laws.specs.Undo.{with_held}
-
--- a header block with its mark taken back if it has one, else unchanged
-abbrev pub unmarked_block : List ℕ → List ℕ
-unmarked_block header = if pointwise nat_eq (sig_of header) image_signature then taken_back header else header
 
 -- the machine, and a disk of `blocks` blocks that has the header block
 pub record IsOnDisk (h : Hardware) (blocks : ℕ) (c : Content) : Type 0 where

@@ -12,7 +12,8 @@ use Rattle.plain_machine.specs.Shows.{WorldView, runs, sleeps, wakes, ShowsRunni
 use Rattle.plain_machine.specs.Stands.{Stands, NamesOnly, NamesHeld}
 use Rattle.plain_machine.specs.State.{on, asleep, waking, Running, Held, nothing, perhaps}
 use Rattle.protocol_laws.specs.Rows.{IsSameArea}
-use Rattle.protocol_laws.specs.Settling.{IsOnDisk, unmarked_block}
+use Rattle.definitions.specs.SwapHeader.{unmarked_block}
+use Rattle.protocol_laws.specs.Settling.{IsOnDisk}
 use Rattle.protocol_laws.specs.Undo.{with_held}
 
 -- The waking begins,

@@ -6,3 +6,4 @@ pub mod Placing
 pub mod Restored
 pub mod Row
 pub mod StepsLeft
+pub mod Stepped

@@ -16,6 +16,8 @@ use Rattle.machine.specs.declared.machine.Machine.{Machine}
 use Rattle.resume_core.specs.declared.load.Load.{Load}
 use Rattle.resume_core.specs.declared.load.Stage.{Stage}
 use Rattle.resume_core.specs.declared.load.Stage.TheVariants as stage
+use Rattle.resume_core.specs.declared.phase.Phase.{Phase}
+use Rattle.resume_core.specs.declared.phase.Phase.TheVariants as phase
 
 -- the machine's activity at each stage
 abbrev pub activity_at : Stage → Activity
@@ -30,6 +32,15 @@ activity_at (stage.Read chain) = loads chain.done
 
 abbrev pub activity_of : Load → Activity
 activity_of load = activity_at load.stage
+
+-- the phase of a resume on a machine of this activity
+abbrev pub phase_in : Activity → Phase
+phase_in rests = phase.Off
+phase_in runs = phase.Runs
+phase_in _ = phase.UnderWay
+
+abbrev pub phase_of : Load → Phase
+phase_of load = phase_in (activity_of load)
 
 -- the header block as it was found, while it is kept
 abbrev pub header_at : Stage → List ℕ

@@ -1,4 +1,4 @@
-ghost use Rattle.std.specs.Prelude.{◌≡◌, ◌<◌, false, [], IfOk, IfErr, if◌then◌else◌};
+ghost use Rattle.std.specs.Prelude.{◌≡◌, false, [], IfOk, IfErr, if◌then◌else◌};
 ghost use Rattle.image_read.specs.Reading.{IsReady};
 ghost use Rattle.plain_machine.specs.Trace.{is_set};
 ghost use Rattle.page_core.specs.declared.format.Format.TheVariants.{Plain, SkipZeros};
@@ -23,12 +23,8 @@ use swap_slots::FreeRuns;
 
 // Taking the mark back, before anything else of the image is read (swsusp_check, kernel/power/swap.c).
 impl Load {
-    ghost use Rattle.plain_machine.specs.declared.event.Event.TheVariants as event;
-    ghost use Rattle.plain_machine.specs.declared.event.Actor.TheVariants as actor;
-    ghost use Rattle.resume_core.specs.Loading.{activity_of, activity_told};
     ghost use Rattle.resume_core.specs.Ready.{CanStep, takes_back_at, syncs_back_at};
-    ghost use Rattle.resume_core.specs.StepsLeft.{loading_steps_left};
-    ghost use Rattle.resume_core.specs.Row.{SimulatesWhereTold};
+    ghost use Rattle.resume_core.specs.Stepped.{HasStepped};
 
     /// Writes the header block with the mark taken back.
     pub(crate) fn take_back<D: Disk>(
@@ -41,13 +37,8 @@ impl Load {
         requires ready { CanStep machine.now frames.now runs.now self.old }
         requires blocks { D.block_count disk.old ≡ machine.now.blocks }
         requires stage { takes_back_at self.old.stage }
-        ensures row { SimulatesWhereTold machine.now frames.now self.old machine.now frames.now self.new
-            (event.Step actor.Core) result (D.content disk.old) (D.content disk.new) }
-        ensures activity { activity_of self.new ≡ activity_told self.old.loader result }
-        ensures loader { self.new.loader ≡ self.old.loader }
-        ensures works { is_idle result ≡ false }
-        ensures ready { CanStep machine.now frames.now runs.now self.new }
-        ensures fewer { loading_steps_left self.new < loading_steps_left self.old }
+        ensures stepped { HasStepped machine.now frames.now self.old machine.now frames.now runs.now self.new result
+            (D.content disk.old) (D.content disk.new) }
         ensures called { Called D.Disk AtMostOneCall (TellsNewFault result) disk.old disk.new }
     {
         match replace(&mut self.stage, Stage::Rest) {
@@ -76,13 +67,8 @@ impl Load {
         requires ready { CanStep machine.now frames.now runs.now self.old }
         requires blocks { D.block_count disk.old ≡ machine.now.blocks }
         requires stage { syncs_back_at self.old.stage }
-        ensures row { SimulatesWhereTold machine.now frames.now self.old machine.now frames.now self.new
-            (event.Step actor.Core) result (D.content disk.old) (D.content disk.new) }
-        ensures activity { activity_of self.new ≡ activity_told self.old.loader result }
-        ensures loader { self.new.loader ≡ self.old.loader }
-        ensures works { is_idle result ≡ false }
-        ensures ready { CanStep machine.now frames.now runs.now self.new }
-        ensures fewer { loading_steps_left self.new < loading_steps_left self.old }
+        ensures stepped { HasStepped machine.now frames.now self.old machine.now frames.now runs.now self.new result
+            (D.content disk.old) (D.content disk.new) }
         ensures called { Called D.Disk AtMostOneCall (TellsNewFault result) disk.old disk.new }
     {
         match disk.sync() {

@@ -1,4 +1,4 @@
-ghost use Rattle.std.specs.Prelude.{◌≡◌, false, length, Some, None, IfOk, MatchResult};
+ghost use Rattle.std.specs.Prelude.{◌≡◌, length, Some, None, IfOk, MatchResult};
 ghost use Rattle.definitions.specs.Disk.{DiskImage};
 ghost use Rattle.definitions.specs.SwapHeader.{taken_back};
 ghost use Rattle.definitions.specs.Zones.{top};
@@ -9,7 +9,6 @@ ghost use Rattle.plain_machine.specs.Trace.{tables_cause};
 ghost use Rattle.plain_machine.specs.UsableArea.{fit_fault};
 ghost use Rattle.plain_machine.specs.declared.reply.Reply.TheVariants as reply;
 ghost use Rattle.machine.specs.Running.{AreReserved};
-ghost use Rattle.protocol_laws.specs.Rows.{TellsNewFault, is_idle};
 
 use crate::Load;
 use crate::load::Stage;
@@ -25,11 +24,11 @@ use swap_slots::FreeRuns;
 // The end of a resume (swsusp_arch_resume; hibernation_restore, kernel/power/hibernate.c).
 impl Load {
     ghost use Rattle.resume_core.specs.declared.load.Stage.TheVariants as stage;
-    ghost use Rattle.resume_core.specs.Loading.{activity_of, activity_told};
-    ghost use Rattle.resume_core.specs.Ready.{CanStep, IsSameMachine, reads_at};
+    ghost use Rattle.resume_core.specs.Ready.{CanStep, reads_at};
     ghost use Rattle.resume_core.specs.declared.load.OpenChain.{OpenChain};
     ghost use Rattle.resume_core.specs.StepsLeft.{loading_steps_left};
     ghost use Rattle.resume_core.specs.Row.{EndsOn};
+    ghost use Rattle.resume_core.specs.Stepped.{HasProceeded};
 
     /// Brings the pages home. After a scripted loader the machine runs, if the tables fit it and the area; after a
     /// dump's loader it is off. No page is missing here: the reader has checked the stream's number of pages against
@@ -44,13 +43,8 @@ impl Load {
         requires stage { reads_at self.old.stage }
         ensures row { (chain : OpenChain) → self.old.stage ≡ stage.Read chain →
             EndsOn machine.old frames.old self.old chain machine.new frames.new self.new result }
-        ensures activity { activity_of self.new ≡ activity_told self.old.loader result }
-        ensures loader { self.new.loader ≡ self.old.loader }
-        ensures works { is_idle result ≡ false }
-        ensures ready { CanStep machine.new frames.new runs.new self.new }
+        ensures proceeded { HasProceeded machine.old self.old machine.new frames.new runs.new self.new result }
         ensures ended { loading_steps_left self.new ≡ 0 }
-        ensures machine { IsSameMachine machine.old machine.new }
-        ensures no_fault { TellsNewFault result → ⊥ }
     {
         let saved = self.origs.len();
         self.waiting.finish(frames, &self.zeros);

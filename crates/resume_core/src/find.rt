@@ -1,4 +1,4 @@
-ghost use Rattle.std.specs.Prelude.{◌≡◌, ◌<◌, false, None, Some, IfOk, IfErr};
+ghost use Rattle.std.specs.Prelude.{◌≡◌, false, None, Some, IfOk, IfErr};
 ghost use Rattle.image_format.specs.AreaKind.{area_kind, mark_of};
 ghost use Rattle.plain_machine.specs.Shows.{rests};
 ghost use Rattle.plain_machine.specs.declared.event.Loader.{Loader};
@@ -20,13 +20,10 @@ use swap_slots::FreeRuns;
 
 // The sync, and the read of the header block (swsusp_check, kernel/power/swap.c).
 impl Load {
-    ghost use Rattle.plain_machine.specs.declared.event.Event.TheVariants as event;
-    ghost use Rattle.plain_machine.specs.declared.event.Actor.TheVariants as actor;
     ghost use Rattle.resume_core.specs.declared.load.Stage.TheVariants as stage;
-    ghost use Rattle.resume_core.specs.Loading.{activity_of, activity_told, FindsMark};
+    ghost use Rattle.resume_core.specs.Loading.{FindsMark};
     ghost use Rattle.resume_core.specs.Ready.{CanStep};
-    ghost use Rattle.resume_core.specs.StepsLeft.{loading_steps_left};
-    ghost use Rattle.resume_core.specs.Row.{SimulatesWhereTold};
+    ghost use Rattle.resume_core.specs.Stepped.{HasStepped};
 
     /// Syncs the disk, which has a single possible content afterwards.
     pub(crate) fn sync_first<D: Disk>(
@@ -39,13 +36,8 @@ impl Load {
         requires ready { CanStep machine.now frames.now runs.now self.old }
         requires blocks { D.block_count disk.old ≡ machine.now.blocks }
         requires stage { self.old.stage ≡ stage.Sync }
-        ensures row { SimulatesWhereTold machine.now frames.now self.old machine.now frames.now self.new
-            (event.Step actor.Core) result (D.content disk.old) (D.content disk.new) }
-        ensures activity { activity_of self.new ≡ activity_told self.old.loader result }
-        ensures loader { self.new.loader ≡ self.old.loader }
-        ensures works { is_idle result ≡ false }
-        ensures ready { CanStep machine.now frames.now runs.now self.new }
-        ensures fewer { loading_steps_left self.new < loading_steps_left self.old }
+        ensures stepped { HasStepped machine.now frames.now self.old machine.now frames.now runs.now self.new result
+            (D.content disk.old) (D.content disk.new) }
         ensures called { Called D.Disk AtMostOneCall (TellsNewFault result) disk.old disk.new }
     {
         match disk.sync() {
@@ -70,13 +62,8 @@ impl Load {
         requires blocks { D.block_count disk.old ≡ machine.now.blocks }
         requires stage { self.old.stage ≡ stage.Find }
         ensures found { (c : Content) → D.content disk.old ≡ Some c → FindsMark machine.now.hw result (as_it_reads c) }
-        ensures row { SimulatesWhereTold machine.now frames.now self.old machine.now frames.now self.new
-            (event.Step actor.Core) result (D.content disk.old) (D.content disk.new) }
-        ensures activity { activity_of self.new ≡ activity_told self.old.loader result }
-        ensures loader { self.new.loader ≡ self.old.loader }
-        ensures works { is_idle result ≡ false }
-        ensures ready { CanStep machine.now frames.now runs.now self.new }
-        ensures fewer { loading_steps_left self.new < loading_steps_left self.old }
+        ensures stepped { HasStepped machine.now frames.now self.old machine.now frames.now runs.now self.new result
+            (D.content disk.old) (D.content disk.new) }
         ensures called { Called D.Disk AtMostOneCall (TellsNewFault result) disk.old disk.new }
     {
         let block = machine.hw.extents().block(0);

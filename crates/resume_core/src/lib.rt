@@ -9,6 +9,8 @@ mod end;
 mod find;
 mod list;
 mod load;
+mod phase;
 mod read;
 
 pub use load::Load;
+pub use phase::Phase;

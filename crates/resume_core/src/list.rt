@@ -18,15 +18,14 @@ use swap_slots::FreeRuns;
 
 // The reads up to the last number page (load_header and unpack_orig_pfns, kernel/power/snapshot.c).
 impl Load {
-    ghost use Rattle.plain_machine.specs.declared.event.Event.TheVariants as event;
-    ghost use Rattle.plain_machine.specs.declared.event.Actor.TheVariants as actor;
     ghost use Rattle.resume_core.specs.declared.load.Stage.TheVariants as stage;
-    ghost use Rattle.resume_core.specs.Loading.{activity_of, activity_told};
-    ghost use Rattle.resume_core.specs.Ready.{CanStep, IsSameMachine, lists_at};
+    ghost use Rattle.resume_core.specs.Loading.{activity_told};
+    ghost use Rattle.resume_core.specs.Ready.{CanStep, lists_at};
     ghost use Rattle.resume_core.specs.declared.load.OpenChain.{OpenChain};
     ghost use Rattle.image_read.specs.Reading.{places_left};
     ghost use Rattle.resume_core.specs.StepsLeft.{loading_steps_left};
-    ghost use Rattle.resume_core.specs.Row.{SimulatesWhereTold, ListsOn};
+    ghost use Rattle.resume_core.specs.Row.{ListsOn};
+    ghost use Rattle.resume_core.specs.Stepped.{HasStepped, HasProceeded};
     ghost use Rattle.resume_core.specs.Refusals.{room_refusal, refusal_behind};
 
     /// Reads the next map, the info page or the next number page.
@@ -40,14 +39,8 @@ impl Load {
         requires ready { CanStep machine.old frames.old runs.old self.old }
         requires blocks { D.block_count disk.old ≡ machine.old.blocks }
         requires stage { lists_at self.old.stage }
-        ensures row { SimulatesWhereTold machine.old frames.old self.old machine.new frames.new self.new
-            (event.Step actor.Core) result (D.content disk.old) (D.content disk.new) }
-        ensures activity { activity_of self.new ≡ activity_told self.old.loader result }
-        ensures loader { self.new.loader ≡ self.old.loader }
-        ensures works { is_idle result ≡ false }
-        ensures ready { CanStep machine.new frames.new runs.new self.new }
-        ensures fewer { loading_steps_left self.new < loading_steps_left self.old }
-        ensures machine { IsSameMachine machine.old machine.new }
+        ensures stepped { HasStepped machine.old frames.old self.old machine.new frames.new runs.new self.new result
+            (D.content disk.old) (D.content disk.new) }
         ensures called { Called D.Disk AtMostOneCall (TellsNewFault result) disk.old disk.new }
     {
         let expected = expected_of(machine, self.check);
@@ -107,14 +100,9 @@ impl Load {
         requires stage { lists_at self.old.stage }
         ensures row { (chain : OpenChain) → self.old.stage ≡ stage.List chain → IsSome chain.reader.listed →
             ListsOn machine.old frames.old self.old chain machine.new frames.new self.new result }
-        ensures activity { activity_of self.new ≡ activity_told self.old.loader result }
-        ensures loader { self.new.loader ≡ self.old.loader }
-        ensures works { is_idle result ≡ false }
-        ensures ready { CanStep machine.new frames.new runs.new self.new }
+        ensures proceeded { HasProceeded machine.old self.old machine.new frames.new runs.new self.new result }
         ensures left { (chain : OpenChain) → self.old.stage ≡ stage.List chain →
             loading_steps_left self.new ≤ places_left chain.reader + 1 }
-        ensures machine { IsSameMachine machine.old machine.new }
-        ensures no_fault { TellsNewFault result → ⊥ }
     {
         match self.plan() {
             Ok(()) => {}

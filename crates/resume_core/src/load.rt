@@ -1,9 +1,10 @@
-ghost use Rattle.std.specs.Prelude.{◌≡◌, ◌<◌, false, IfOk};
+ghost use Rattle.std.specs.Prelude.{◌≡◌, IfOk};
 ghost use Rattle.definitions.specs.Disk.{Content, as_it_reads};
-ghost use Rattle.protocol_laws.specs.Rows.{TellsNewFault, is_idle};
+ghost use Rattle.protocol_laws.specs.Rows.{TellsNewFault};
 ghost use Rattle.resume_core.specs.Loading.{IsIdle};
 ghost use Rattle.sector_disk.specs.Called.{Called, AtMostOneCall};
 
+use crate::Phase;
 use frame_arena::Frames;
 use frame_sets::Bitmap;
 use image_format::Mark;
@@ -69,13 +70,10 @@ pub struct Load {
 }
 
 impl Load {
-    ghost use Rattle.plain_machine.specs.declared.event.Event.TheVariants as event;
-    ghost use Rattle.plain_machine.specs.declared.event.Actor.TheVariants as actor;
     ghost use Rattle.resume_core.specs.declared.load.Stage.TheVariants as stage;
-    ghost use Rattle.resume_core.specs.Loading.{activity_of, activity_told, FindsMark};
-    ghost use Rattle.resume_core.specs.Ready.{CanStep, IsBusy, IsSameMachine};
-    ghost use Rattle.resume_core.specs.StepsLeft.{loading_steps_left};
-    ghost use Rattle.resume_core.specs.Row.{SimulatesWhereTold};
+    ghost use Rattle.resume_core.specs.Loading.{phase_of, FindsMark};
+    ghost use Rattle.resume_core.specs.Ready.{CanStep, IsBusy};
+    ghost use Rattle.resume_core.specs.Stepped.{HasStepped};
 
     /// Creates an idle `Load` with enough memory for every resume of this machine.
     pub fn create(alloc: Global, hw: &Hardware) -> Result<Load, NoMemory>
@@ -99,6 +97,22 @@ impl Load {
         self.loader
     }
 
+    /// Returns whether a step is left, and what the machine does if none is.
+    pub fn phase(&self) -> Phase
+        ensures { result ≡ phase_of self.now }
+    {
+        match &self.stage {
+            Stage::Rest => Phase::Off,
+            Stage::Runs => Phase::Runs,
+            Stage::Sync
+            | Stage::Find
+            | Stage::TakeBack(_)
+            | Stage::SyncBack(_)
+            | Stage::List(_)
+            | Stage::Read(_) => Phase::UnderWay,
+        }
+    }
+
     /// Makes the next step, with at most one call of the disk.
     pub fn step<D: Disk>(
         &mut self,
@@ -112,14 +126,8 @@ impl Load {
         requires busy { IsBusy self.old }
         ensures found { self.old.stage ≡ stage.Find → (c : Content) → D.content disk.old ≡ Some c →
             FindsMark machine.old.hw result (as_it_reads c) }
-        ensures row { SimulatesWhereTold machine.old frames.old self.old machine.new frames.new self.new
-            (event.Step actor.Core) result (D.content disk.old) (D.content disk.new) }
-        ensures activity { activity_of self.new ≡ activity_told self.old.loader result }
-        ensures loader { self.new.loader ≡ self.old.loader }
-        ensures works { is_idle result ≡ false }
-        ensures ready { CanStep machine.new frames.new runs.new self.new }
-        ensures fewer { loading_steps_left self.new < loading_steps_left self.old }
-        ensures machine { IsSameMachine machine.old machine.new }
+        ensures stepped { HasStepped machine.old frames.old self.old machine.new frames.new runs.new self.new result
+            (D.content disk.old) (D.content disk.new) }
         ensures called { Called D.Disk AtMostOneCall (TellsNewFault result) disk.old disk.new }
     {
         match &self.stage {

@@ -1,7 +1,7 @@
-ghost use Rattle.std.specs.Prelude.{◌≡◌, ◌<◌, ◌≤◌, ◌+◌, false, true, length};
+ghost use Rattle.std.specs.Prelude.{◌≡◌, ◌<◌, ◌≤◌, ◌+◌, true, length};
 ghost use Rattle.definitions.specs.Bytes.{IsPage};
 ghost use Rattle.image_read.specs.declared.reader.ReadStep.TheVariants as read_step;
-ghost use Rattle.protocol_laws.specs.Rows.{TellsNewFault, is_idle};
+ghost use Rattle.protocol_laws.specs.Rows.{TellsNewFault};
 ghost use Rattle.sector_disk.specs.Called.{Called, AtMostOneCall};
 
 use crate::Load;
@@ -18,16 +18,14 @@ use swap_slots::FreeRuns;
 
 // The reads of the saved pages (snapshot_write_next, kernel/power/snapshot.c).
 impl Load {
-    ghost use Rattle.plain_machine.specs.declared.event.Event.TheVariants as event;
-    ghost use Rattle.plain_machine.specs.declared.event.Actor.TheVariants as actor;
     ghost use Rattle.resume_core.specs.declared.load.Stage.TheVariants as stage;
-    ghost use Rattle.resume_core.specs.Loading.{activity_of, activity_told};
-    ghost use Rattle.resume_core.specs.Ready.{CanStep, IsSameMachine, reads_at};
+    ghost use Rattle.resume_core.specs.Ready.{CanStep, reads_at};
     ghost use Rattle.resume_core.specs.declared.load.OpenChain.{OpenChain};
     ghost use Rattle.resume_core.specs.Placing.{CanReadInPlace, HasReadInPlace};
     ghost use Rattle.image_read.specs.Reading.{HasReadAll, places_left};
     ghost use Rattle.resume_core.specs.StepsLeft.{loading_steps_left};
-    ghost use Rattle.resume_core.specs.Row.{SimulatesWhereTold, ReadsOn};
+    ghost use Rattle.resume_core.specs.Row.{ReadsOn};
+    ghost use Rattle.resume_core.specs.Stepped.{HasStepped, HasProceeded};
 
     /// Reads the next map or saved page.
     pub(crate) fn read_next<D: Disk>(
@@ -40,14 +38,8 @@ impl Load {
         requires ready { CanStep machine.old frames.old runs.old self.old }
         requires blocks { D.block_count disk.old ≡ machine.old.blocks }
         requires stage { reads_at self.old.stage }
-        ensures row { SimulatesWhereTold machine.old frames.old self.old machine.new frames.new self.new
-            (event.Step actor.Core) result (D.content disk.old) (D.content disk.new) }
-        ensures activity { activity_of self.new ≡ activity_told self.old.loader result }
-        ensures loader { self.new.loader ≡ self.old.loader }
-        ensures works { is_idle result ≡ false }
-        ensures ready { CanStep machine.new frames.new runs.new self.new }
-        ensures fewer { loading_steps_left self.new < loading_steps_left self.old }
-        ensures machine { IsSameMachine machine.old machine.new }
+        ensures stepped { HasStepped machine.old frames.old self.old machine.new frames.new runs.new self.new result
+            (D.content disk.old) (D.content disk.new) }
         ensures called { Called D.Disk AtMostOneCall (TellsNewFault result) disk.old disk.new }
     {
         match self.read_in_place(machine, frames, disk) {
@@ -118,16 +110,11 @@ impl Load {
         requires stage { reads_at self.old.stage }
         ensures row { (chain : OpenChain) → self.old.stage ≡ stage.Read chain →
             ReadsOn machine.old frames.old self.old chain machine.new frames.new self.new result }
-        ensures activity { activity_of self.new ≡ activity_told self.old.loader result }
-        ensures loader { self.new.loader ≡ self.old.loader }
-        ensures works { is_idle result ≡ false }
-        ensures ready { CanStep machine.new frames.new runs.new self.new }
+        ensures proceeded { HasProceeded machine.old self.old machine.new frames.new runs.new self.new result }
         ensures left { (chain : OpenChain) → self.old.stage ≡ stage.Read chain →
             loading_steps_left self.new ≤ places_left chain.reader + 1 }
         ensures ended { (chain : OpenChain) → self.old.stage ≡ stage.Read chain → HasReadAll chain.reader →
             loading_steps_left self.new ≡ 0 }
-        ensures machine { IsSameMachine machine.old machine.new }
-        ensures no_fault { TellsNewFault result → ⊥ }
     {
         match &mut self.stage {
             Stage::Read(chain) => {

@@ -15,7 +15,8 @@ use Rattle.plain_machine.specs.declared.reply.Left.TheVariants.{Same, Unsure}
 use Rattle.plain_machine.specs.declared.reply.Reply.{Reply}
 use Rattle.plain_machine.specs.declared.reply.Reply.TheVariants as reply
 use Rattle.protocol_laws.specs.Rows as rows
-use Rattle.protocol_laws.specs.Settling.{IsOnDisk, unmarked_block}
+use Rattle.definitions.specs.SwapHeader.{unmarked_block}
+use Rattle.protocol_laws.specs.Settling.{IsOnDisk}
 use Rattle.protocol_laws.specs.Slots.{IsMemoryOf}
 use Rattle.protocol_laws.specs.Undo.{with_held}
 use Rattle.protocol_laws.proofs.HeaderLeft.{left_same}

@@ -1,6 +1,6 @@
 -- The rows of the plain machine that a waking implements, for any machine and page frames, which its caller changes as
 -- the replies say.
-use Rattle.std.specs.Prelude.{◌≡◌, Option}
+use Rattle.std.specs.Prelude.{◌≡◌, ◌<◌, Option}
 use Rattle.definitions.specs.Disk as disk
 use Rattle.plain_machine.specs.Machine.{Memory}
 use Rattle.plain_machine.specs.Shows.{seen_frames}
@@ -14,7 +14,7 @@ use Rattle.plain_machine.specs.declared.reply.Reply.TheVariants as reply
 use Rattle.protocol_laws.specs.Rows as rows
 use Rattle.protocol_laws.specs.Slots.{IsMemoryOf}
 use Rattle.machine.specs.declared.machine.Machine.{Machine}
-use Rattle.sleep_core.specs.Waking.{shown_by, asleep_by, running_by}
+use Rattle.sleep_core.specs.Waking.{shown_by, asleep_by, running_by, phase_of, phase_told, IsReplyAt, waking_steps_left}
 use Rattle.sleep_core.specs.declared.waker.Waker.{Waker}
 
 -- A machine that wakes, sleeps or runs stands, with its disk, for a state.
@@ -47,6 +47,14 @@ SimulatesWhereTold machine waker waker' r before now =
     IsLeft r machine frames machine' frames' →
     rows.SimulatesWhereTold machine.hw (WakingStandsFor machine frames waker) (StandsAfter r machine' frames' waker')
     (event.Step actor.Core) r before now
+
+-- What a step of a waking does, whichever way its call of the disk ends.
+pub record HasStepped (machine : Machine) (waker waker' : Waker) (r : Reply) (before now : Option disk.Content)
+    : Type 0 where
+  pub row : SimulatesWhereTold machine waker waker' r before now
+  pub reply : IsReplyAt waker.stage r
+  pub phase : phase_of waker' ≡ phase_told r
+  pub fewer : waking_steps_left waker' < waking_steps_left waker
 
 -- the row of Wake, an event without a disk call
 abbrev pub IsBegun : Waker → Type 0

@@ -1,5 +1,5 @@
 -- A waking, and what a machine shows while it wakes, sleeps or runs.
-use Rattle.std.specs.Prelude.{◌≡◌, ◌⊎◌, ℕ, Bool, true, false, List, [], None}
+use Rattle.std.specs.Prelude.{◌≡◌, ◌⊎◌, ℕ, false, List, [], None}
 use Rattle.plain_machine.specs.Machine.{Memory}
 use Rattle.plain_machine.specs.Shows.{WorldView, Activity, runs, sleeps, wakes}
 use Rattle.plain_machine.specs.declared.reply.Left.TheVariants.{Same, Unsure}
@@ -8,6 +8,8 @@ use Rattle.plain_machine.specs.declared.reply.Reply.TheVariants as reply
 use Rattle.machine.specs.Flights.{flights_in}
 use Rattle.machine.specs.Running.{reason_of}
 use Rattle.machine.specs.declared.machine.Machine.{Machine}
+use Rattle.sleep_core.specs.declared.phase.Phase.{Phase}
+use Rattle.sleep_core.specs.declared.phase.Phase.TheVariants as phase
 use Rattle.sleep_core.specs.declared.waker.Stage.{Stage}
 use Rattle.sleep_core.specs.declared.waker.Stage.TheVariants as stage
 use Rattle.sleep_core.specs.declared.waker.Waker.{Waker}
@@ -17,14 +19,16 @@ abbrev pub steps_before : Stage → ℕ
 steps_before stage.Read = 0
 steps_before (stage.Write header) = 1
 steps_before stage.Sync = 2
-steps_before stage.Over = 3
+steps_before stage.Woken = 3
+steps_before stage.Asleep = 3
 
 -- An upper bound for the steps left: each step leaves fewer, whatever the disk tells.
 abbrev pub waking_steps_left_at : Stage → ℕ
 waking_steps_left_at stage.Read = 3
 waking_steps_left_at (stage.Write header) = 2
 waking_steps_left_at stage.Sync = 1
-waking_steps_left_at stage.Over = 0
+waking_steps_left_at stage.Woken = 0
+waking_steps_left_at stage.Asleep = 0
 
 abbrev pub waking_steps_left : Waker → ℕ
 waking_steps_left waker = waking_steps_left_at waker.stage
@@ -37,27 +41,28 @@ header_at _ = []
 abbrev pub activity_of : Waker → Activity
 activity_of waker = wakes (steps_before waker.stage)
 
--- whether no step is left to make
-abbrev pub is_over_at : Stage → Bool
-is_over_at stage.Read = false
-is_over_at (stage.Write header) = false
-is_over_at stage.Sync = false
-is_over_at stage.Over = true
+-- what follows the last step
+abbrev pub phase_at : Stage → Phase
+phase_at stage.Woken = phase.Runs
+phase_at stage.Asleep = phase.Asleep
+phase_at _ = phase.UnderWay
 
-abbrev pub is_over : Waker → Bool
-is_over waker = is_over_at waker.stage
+abbrev pub phase_of : Waker → Phase
+phase_of waker = phase_at waker.stage
 
--- whether no step follows this reply
-abbrev pub is_last : Reply → Bool
-is_last (reply.More k of) = false
-is_last _ = true
+-- and what it is after a step with this reply
+abbrev pub phase_told : Reply → Phase
+phase_told (reply.More k of) = phase.UnderWay
+phase_told reply.Woken = phase.Runs
+phase_told _ = phase.Asleep
 
 -- the possible replies at each stage
 abbrev pub IsReplyAt : Stage → Reply → Type 0
 IsReplyAt stage.Read r = (r ≡ reply.More 1 3) ⊎ (r ≡ reply.ReadFault Same)
 IsReplyAt (stage.Write header) r = (r ≡ reply.More 2 3) ⊎ (r ≡ reply.WriteFault Unsure)
 IsReplyAt stage.Sync r = (r ≡ reply.Woken) ⊎ (r ≡ reply.SyncFault Unsure)
-IsReplyAt stage.Over r = ⊥
+IsReplyAt stage.Woken r = ⊥
+IsReplyAt stage.Asleep r = ⊥
 
 -- What is shown during an activity, with the header block that is kept. A machine that sleeps or wakes shows what it
 -- held before the suspend, which is nothing; what it holds now is in the state.

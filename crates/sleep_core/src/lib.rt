@@ -2,6 +2,8 @@
 //! it kept (hibernation mode "suspend", kernel/power/hibernate.c; swsusp_unmark, kernel/power/swap.c).
 #![tactic(auto)]
 
+mod phase;
 mod waker;
 
+pub use phase::Phase;
 pub use waker::Waker;

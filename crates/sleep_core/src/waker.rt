@@ -1,14 +1,15 @@
-ghost use Rattle.std.specs.Prelude.{◌≡◌, false, ℕ, List, ◌<◌, nat_eq};
+ghost use Rattle.std.specs.Prelude.{◌≡◌, ℕ, List, ◌<◌, nat_eq};
 ghost use Rattle.std.specs.Cmp.Lexicographic.{pointwise};
-ghost use Rattle.definitions.specs.SwapHeader.{sig_of, image_signature};
+ghost use Rattle.definitions.specs.SwapHeader.{sig_of, image_signature, unmarked_block};
 ghost use Rattle.plain_machine.specs.Machine.{IsHardware, block_of_slot};
 ghost use Rattle.protocol_laws.specs.Rows.{TellsNewFault};
-ghost use Rattle.protocol_laws.specs.Settling.{unmarked_block};
-ghost use Rattle.sleep_core.specs.Waking.{is_over, is_last, IsReplyAt, waking_steps_left};
-ghost use Rattle.sleep_core.specs.Row.{SimulatesWhereTold, IsBegun};
+ghost use Rattle.sleep_core.specs.Waking.{phase_of};
+ghost use Rattle.sleep_core.specs.Row.{HasStepped, IsBegun};
+ghost use Rattle.sleep_core.specs.declared.phase.Phase.TheVariants as phase;
 ghost use Rattle.sector_disk.specs.Called.{Called, OneCall};
 
-use image_format::{AreaKind, take_back};
+use crate::phase::Phase;
+use image_format::unmark;
 use machine::Machine;
 use page_core::{Failed, Page};
 use plain_machine::{Left, Reply};
@@ -26,8 +27,10 @@ pub(crate) enum Stage {
     Write(Page),
     /// The sync of the cleared mark. No image exists after it.
     Sync,
-    /// No step: the machine runs, or sleeps again.
-    Over,
+    /// No step: the machine runs.
+    Woken,
+    /// No step: the machine sleeps again.
+    Asleep,
 }
 
 /// A waking. It changes neither the machine nor its page frames: its caller does so, as the replies say.
@@ -42,30 +45,37 @@ impl Waker {
     /// Begins to wake a machine that sleeps.
     pub fn begin() -> Waker
         ensures row { IsBegun result }
-        ensures begun { is_over result ≡ false }
+        ensures begun { phase_of result ≡ phase.UnderWay }
     {
         Waker { stage: Stage::Read }
+    }
+
+    /// Returns whether a step is left to make, or else whether the machine runs or sleeps again.
+    pub fn phase(&self) -> Phase
+        ensures { result ≡ phase_of self.now }
+    {
+        match self.stage {
+            Stage::Read | Stage::Write(_) | Stage::Sync => Phase::UnderWay,
+            Stage::Woken => Phase::Runs,
+            Stage::Asleep => Phase::Asleep,
+        }
     }
 
     /// Makes the next step, with one call of the disk. After `Woken` the caller has to record that the machine holds
     /// nothing, and to give the image's slots back; after any other reply the machine is as it was.
     pub fn step<D: Disk>(&mut self, machine: &Machine, disk: &mut D) -> Reply
-        requires under_way { is_over self.old ≡ false }
+        requires under_way { phase_of self.old ≡ phase.UnderWay }
         requires blocks { D.block_count disk.old ≡ machine.now.blocks }
         requires hardware { IsHardware machine.now.hw }
         requires header { block_of_slot machine.now.hw 0 < machine.now.blocks }
-        ensures row { SimulatesWhereTold machine.now self.old self.new result (D.content disk.old)
-            (D.content disk.new) }
-        ensures reply { IsReplyAt self.old.stage result }
-        ensures finished { is_over self.new ≡ is_last result }
-        ensures fewer { waking_steps_left self.new < waking_steps_left self.old }
+        ensures stepped { HasStepped machine.now self.old self.new result (D.content disk.old) (D.content disk.new) }
         ensures called { Called D.Disk OneCall (TellsNewFault result) disk.old disk.new }
     {
         match self.stage {
             Stage::Read => self.read_header(machine, disk),
             Stage::Write(_) => self.write_back(machine, disk),
             Stage::Sync => self.sync_back(machine, disk),
-            Stage::Over => unreachable!(),
+            Stage::Woken | Stage::Asleep => unreachable!(),
         }
     }
 
@@ -74,11 +84,7 @@ impl Waker {
         requires at { self.old.stage ≡ stage.Read }
         requires blocks { D.block_count disk.old ≡ machine.now.blocks }
         requires header { block_of_slot machine.now.hw 0 < machine.now.blocks }
-        ensures row { SimulatesWhereTold machine.now self.old self.new result (D.content disk.old)
-            (D.content disk.new) }
-        ensures reply { IsReplyAt stage.Read result }
-        ensures finished { is_over self.new ≡ is_last result }
-        ensures fewer { waking_steps_left self.new < waking_steps_left self.old }
+        ensures stepped { HasStepped machine.now self.old self.new result (D.content disk.old) (D.content disk.new) }
         ensures called { Called D.Disk OneCall (TellsNewFault result) disk.old disk.new }
     {
         // The prover knows the bounds of a field's type only once the field is read.
@@ -91,7 +97,7 @@ impl Waker {
                 Reply::More { k: 1, of: STEPS }
             }
             Err(Failed) => {
-                self.stage = Stage::Over;
+                self.stage = Stage::Asleep;
                 Reply::ReadFault { left: Left::Same }
             }
         }
@@ -104,11 +110,7 @@ impl Waker {
         requires blocks { D.block_count disk.old ≡ machine.now.blocks }
         requires hardware { IsHardware machine.now.hw }
         requires header { block_of_slot machine.now.hw 0 < machine.now.blocks }
-        ensures row { SimulatesWhereTold machine.now self.old self.new result (D.content disk.old)
-            (D.content disk.new) }
-        ensures reply { IsReplyAt self.old.stage result }
-        ensures finished { is_over self.new ≡ is_last result }
-        ensures fewer { waking_steps_left self.new < waking_steps_left self.old }
+        ensures stepped { HasStepped machine.now self.old self.new result (D.content disk.old) (D.content disk.new) }
         ensures called { Called D.Disk OneCall (TellsNewFault result) disk.old disk.new }
     {
         let _blocks = machine.blocks;
@@ -117,14 +119,13 @@ impl Waker {
         };
         let block = machine.hw.extents().block(0);
         unmark(header);
-        let _ = header.as_bytes();
         match disk.write(block as u32, header) {
             Ok(()) => {
                 self.stage = Stage::Sync;
                 Reply::More { k: 2, of: STEPS }
             }
             Err(Failed) => {
-                self.stage = Stage::Over;
+                self.stage = Stage::Asleep;
                 Reply::WriteFault { left: Left::Unsure }
             }
         }
@@ -134,33 +135,18 @@ impl Waker {
     fn sync_back<D: Disk>(&mut self, machine: &Machine, disk: &mut D) -> Reply
         requires at { self.old.stage ≡ stage.Sync }
         requires blocks { D.block_count disk.old ≡ machine.now.blocks }
-        ensures row { SimulatesWhereTold machine.now self.old self.new result (D.content disk.old)
-            (D.content disk.new) }
-        ensures reply { IsReplyAt stage.Sync result }
-        ensures finished { is_over self.new ≡ is_last result }
-        ensures fewer { waking_steps_left self.new < waking_steps_left self.old }
+        ensures stepped { HasStepped machine.now self.old self.new result (D.content disk.old) (D.content disk.new) }
         ensures called { Called D.Disk OneCall (TellsNewFault result) disk.old disk.new }
     {
-        self.stage = Stage::Over;
         match disk.sync() {
-            Ok(()) => Reply::Woken,
-            Err(Failed) => Reply::SyncFault { left: Left::Unsure },
+            Ok(()) => {
+                self.stage = Stage::Woken;
+                Reply::Woken
+            }
+            Err(Failed) => {
+                self.stage = Stage::Asleep;
+                Reply::SyncFault { left: Left::Unsure }
+            }
         }
     }
-}
-
-/// Takes the mark of a header block back, if it carries one.
-fn unmark(header: &mut Page)
-    ensures { header.new ≡ unmarked_block header.old }
-{
-    if is_marked(header) {
-        *header = take_back(header);
-    }
-}
-
-/// Returns whether a header block carries the signature of an image.
-fn is_marked(header: &Page) -> bool
-    ensures { result ≡ pointwise nat_eq (sig_of header.now) image_signature }
-{
-    matches!(AreaKind::read(header), AreaKind::Image(_))
 }

@@ -22,7 +22,8 @@ use Rattle.plain_machine.specs.declared.reply.Reply.TheVariants as reply
 use Rattle.machine.specs.Running.{reason_of}
 use Rattle.machine.specs.declared.machine.Machine.{Machine}
 use Rattle.hib_core.specs.Hibernation as hibernation
-use Rattle.hib_core.specs.Hibernation.{Phase, under_way, runs_on, switched_off, asleep}
+use Rattle.hib_core.specs.declared.phase.Phase.{Phase}
+use Rattle.hib_core.specs.declared.phase.Phase.TheVariants as phase
 use Rattle.hib_core.specs.Ready.{IsBusy, is_busy_at, IsSameMachine}
 use Rattle.hib_core.specs.Row as hib_row
 use Rattle.hib_core.specs.declared.hib.Hib.{Hib}
@@ -96,11 +97,11 @@ abbrev is_loading : Core → Bool
 is_loading Loading = true
 is_loading _ = false
 
-never_loads_in : {A : Type 0} (phase : Phase) → core_in phase ≡ Loading → A
-never_loads_in under_way e = absurd (false≢true (ap is_loading e))
-never_loads_in runs_on e = absurd (false≢true (ap is_loading e))
-never_loads_in switched_off e = absurd (false≢true (ap is_loading e))
-never_loads_in asleep e = absurd (false≢true (ap is_loading e))
+never_loads_in : {A : Type 0} (p : Phase) → core_in p ≡ Loading → A
+never_loads_in phase.UnderWay e = absurd (false≢true (ap is_loading e))
+never_loads_in phase.Runs e = absurd (false≢true (ap is_loading e))
+never_loads_in phase.Off e = absurd (false≢true (ap is_loading e))
+never_loads_in phase.Asleep e = absurd (false≢true (ap is_loading e))
 
 -- a world that hibernates or settles doesn't resume
 pub never_loads : {A : Type 0} (r : Reply) (core : Core) → core ≡ core_told r → core ≡ Loading → A
@@ -110,18 +111,18 @@ abbrev is_waking : Core → Bool
 is_waking Waking = true
 is_waking _ = false
 
-never_wakes_in : {A : Type 0} (phase : Phase) → core_in phase ≡ Waking → A
-never_wakes_in under_way e = absurd (false≢true (ap is_waking e))
-never_wakes_in runs_on e = absurd (false≢true (ap is_waking e))
-never_wakes_in switched_off e = absurd (false≢true (ap is_waking e))
-never_wakes_in asleep e = absurd (false≢true (ap is_waking e))
+never_wakes_in : {A : Type 0} (p : Phase) → core_in p ≡ Waking → A
+never_wakes_in phase.UnderWay e = absurd (false≢true (ap is_waking e))
+never_wakes_in phase.Runs e = absurd (false≢true (ap is_waking e))
+never_wakes_in phase.Off e = absurd (false≢true (ap is_waking e))
+never_wakes_in phase.Asleep e = absurd (false≢true (ap is_waking e))
 
 -- a world that hibernates or settles doesn't wake
 pub never_wakes : {A : Type 0} (r : Reply) (core : Core) → core ≡ core_told r → core ≡ Waking → A
 never_wakes r core is e = never_wakes_in (hibernation.phase_told r) (sym is ∙ e)
 
 -- nor does a world sleep whose hibernation has only begun or was refused
-pub never_sleeps : {A : Type 0} (r : Reply) (core : Core) → core ≡ core_told r → (hibernation.phase_told r ≡ under_way) ⊎ (hibernation.phase_told r ≡ runs_on) → IsDown core → A
+pub never_sleeps : {A : Type 0} (r : Reply) (core : Core) → core ≡ core_told r → (hibernation.phase_told r ≡ phase.UnderWay) ⊎ (hibernation.phase_told r ≡ phase.Runs) → IsDown core → A
 never_sleeps r core is (inl begun) down = absurd (subst IsDown (is ∙ ap core_in begun) down)
 never_sleeps r core is (inr refused) down = absurd (subst IsDown (is ∙ ap core_in refused) down)
 

@@ -29,7 +29,8 @@ use Rattle.machine.specs.declared.flight.Flight.TheVariants.{Nothing}
 use Rattle.machine.specs.declared.machine.Machine.{Machine}
 use Rattle.machine.proofs.Readiness.{reserved-same, in_flight-none, in_flight-same, flights-none}
 use Rattle.hib_core.specs.Hibernation as hibernation
-use Rattle.hib_core.specs.Hibernation.{Phase, under_way, runs_on, switched_off, asleep}
+use Rattle.hib_core.specs.declared.phase.Phase.{Phase}
+use Rattle.hib_core.specs.declared.phase.Phase.TheVariants as phase
 use Rattle.hib_core.specs.Leaving.{LeavesAtBegin}
 use Rattle.hib_core.specs.Ready.{IsSameMachine}
 use Rattle.hib_core.specs.declared.hib.Job.{Job}
@@ -122,11 +123,11 @@ entries_at_begin asked h old new hw reserved (inr same) p in' = ap (λ (m : Memo
 
 -- What a world is doing after a step of its hibernation or its resume.
 
-no_tables_in : {A : Type 0} (phase : Phase) → HasTables (core_in phase) → A
-no_tables_in under_way has = absurd has
-no_tables_in runs_on has = absurd has
-no_tables_in switched_off has = absurd (false≢true has)
-no_tables_in asleep has = absurd has
+no_tables_in : {A : Type 0} (p : Phase) → HasTables (core_in p) → A
+no_tables_in phase.UnderWay has = absurd has
+no_tables_in phase.Runs has = absurd has
+no_tables_in phase.Off has = absurd (false≢true has)
+no_tables_in phase.Asleep has = absurd has
 
 pub no_tables_told : {A : Type 0} (r : Reply) (core : Core) → core ≡ core_told r → HasTables core → A
 no_tables_told r core is has = no_tables_in (hibernation.phase_told r) (subst HasTables is has)

@@ -1,5 +1,5 @@
 -- What the rows of a resume say of the world that makes them.
-use Rattle.std.proofs.Common.{◌≡◌, ℕ, Bool, true, false, [], Option, Some, None, Result, Ok, Err, refl, sym, ap, ◌∙◌, subst}
+use Rattle.std.proofs.Common.{◌≡◌, ◌≢◌, ℕ, Bool, true, false, [], Option, Some, None, Result, Ok, Err, refl, sym, ap, ◌∙◌, subst}
 use Rattle.std.specs.List.{zip}
 use Rattle.std.proofs.lemmas.Bool.{false≢true}
 use Rattle.definitions.specs.Disk as disk
@@ -32,7 +32,7 @@ use Rattle.world_core.specs.declared.world.Core.{Core}
 use Rattle.world_core.specs.declared.world.Core.TheVariants.{Off, Running as Runs, BootBegun, BootSynced, Hibernating, Asleep, Waking, Loading}
 use Rattle.world_core.specs.World.{World}
 use Rattle.world_core.specs.Kept.{IsDown, IsUp}
-use Rattle.world_core.specs.StandsFor.{StandsFor, IsOff, hardware_of, keeps_dump, shown, shown_at, core_at, core_resumed}
+use Rattle.world_core.specs.StandsFor.{StandsFor, IsOff, hardware_of, is_off, keeps_dump, shown, shown_at, core_at, core_loading}
 use Rattle.world_core.specs.Row.{Simulates, SimulatesWhereTold, Restores}
 use Rattle.world_core.proofs.Hibernating.{shown_in, then_off, then_running}
 use Rattle.world_core.proofs.Rows.{row_at_rest}
@@ -113,11 +113,31 @@ never_sleeps (stage.Read chain) down = down
 -- a world after a step of its resume, by the reply
 pub record IsAfter (load : Load) (r : Reply) (core : Core) : Type 0 where
   pub loader : Loader
-  pub core_is : core ≡ core_resumed loader r
+  pub core_is : core ≡ core_loading (resumption.phase_of load)
   pub told : resumption.activity_of load ≡ resumption.activity_told loader r
 
+-- what a resume is doing is what its activity says
+core_of_stage : (s : Stage) → core_loading (resumption.phase_in (resumption.activity_at s)) ≡ core_at (resumption.activity_at s)
+core_of_stage stage.Rest = refl
+core_of_stage stage.Runs = refl
+core_of_stage stage.Sync = refl
+core_of_stage stage.Find = refl
+core_of_stage (stage.TakeBack found) = refl
+core_of_stage (stage.SyncBack found) = refl
+core_of_stage (stage.List chain) = refl
+core_of_stage (stage.Read chain) = refl
+
 pub core_now : (load : Load) (r : Reply) (core : Core) → IsAfter load r core → core ≡ core_at (resumption.activity_of load)
-core_now load r core is = is.core_is ∙ sym (ap core_at is.told)
+core_now load r core is = is.core_is ∙ core_of_stage load.stage
+
+at_rest : (loader : Loader) (r : Reply) → ((k : ℕ) → r ≢ reply.Loading k) → ((n : ℕ) → r ≢ reply.Resumed n) → resumption.activity_told loader r ≡ rests
+at_rest loader (reply.Loading k) goes_on ends = absurd (goes_on k refl)
+at_rest loader (reply.Resumed n) goes_on ends = absurd (ends n refl)
+at_rest loader _ goes_on ends = refl
+
+-- a resume that is refused or fails leaves the machine off
+pub off_after : (load : Load) (r : Reply) (core : Core) → IsAfter load r core → ((k : ℕ) → r ≢ reply.Loading k) → ((n : ℕ) → r ≢ reply.Resumed n) → is_off core ≡ true
+off_after load r core is goes_on ends = ap is_off (core_now load r core is ∙ ap core_at (is.told ∙ at_rest is.loader r goes_on ends))
 
 pub busy_after : (load : Load) (r : Reply) (core : Core) → IsAfter load r core → core ≡ Loading → IsBusy load
 busy_after load r core is e = busy_at load.stage (sym (core_now load r core is) ∙ e)

@@ -3,7 +3,8 @@ use Rattle.std.proofs.Common.{◌≡◌, ◌<◌, ◌≤◌, ℕ, refl, sym, ap,
 use Rattle.plain_machine.specs.declared.reply.Reply.{Reply}
 use Rattle.plain_machine.specs.declared.reply.Reply.TheVariants as reply
 use Rattle.hib_core.specs.Hibernation as hibernation
-use Rattle.hib_core.specs.Hibernation.{Phase, under_way, runs_on, switched_off, asleep}
+use Rattle.hib_core.specs.declared.phase.Phase.{Phase}
+use Rattle.hib_core.specs.declared.phase.Phase.TheVariants as phase
 use Rattle.hib_core.specs.StepsLeft.{saving_steps_left}
 use Rattle.hib_core.specs.declared.hib.Hib.{Hib}
 use Rattle.resume_core.specs.Loading as resumption
@@ -25,10 +26,10 @@ fewer_from n old core is less = subst (λ (k : Core). n < steps_left_in k old.hi
 
 -- of a hibernation or a settling
 in_phase : (phase : Phase) (hib : Hib) (load : Load) (waker : Waker) → steps_left_in (core_in phase) hib load waker ≤ saving_steps_left hib
-in_phase under_way hib load waker = omega arith
-in_phase runs_on hib load waker = omega arith
-in_phase switched_off hib load waker = omega arith
-in_phase asleep hib load waker = omega arith
+in_phase phase.UnderWay hib load waker = omega arith
+in_phase phase.Runs hib load waker = omega arith
+in_phase phase.Off hib load waker = omega arith
+in_phase phase.Asleep hib load waker = omega arith
 
 pub saving_fewer : (r : Reply) (core : Core) (n : ℕ) (hib : Hib) (load : Load) (waker : Waker) → core ≡ core_told r → saving_steps_left hib < n → steps_left_in core hib load waker < n
 saving_fewer r core n hib load waker is less =

@@ -17,7 +17,8 @@ use Rattle.hib_core.specs.Ready.{IsSameMachine}
 use Rattle.hib_core.proofs.Leaving.{SameEntries, entries_seen}
 use Rattle.sleep_core.specs.Row as sleep_row
 use Rattle.sleep_core.specs.Waking as waked
-use Rattle.sleep_core.specs.Waking.{is_last}
+use Rattle.sleep_core.specs.Waking.{phase_told}
+use Rattle.sleep_core.specs.declared.phase.Phase.TheVariants.{UnderWay}
 use Rattle.world_core.specs.declared.world.Core.{Core}
 use Rattle.world_core.specs.declared.world.Core.TheVariants.{Running as Runs, Hibernating, Asleep, Waking, Loading}
 use Rattle.world_core.specs.World.{World}
@@ -55,7 +56,7 @@ woken_loads_not (reply.More k of) e = absurd (false≢true (ap is_loading e))
 woken_loads_not reply.Woken e = absurd (false≢true (ap is_loading e))
 woken_loads_not _ e = absurd (false≢true (ap is_loading e))
 
-pub wakes_on : (r : Reply) → core_woken r ≡ Waking → is_last r ≡ false
+pub wakes_on : (r : Reply) → core_woken r ≡ Waking → phase_told r ≡ UnderWay
 wakes_on (reply.More k of) e = refl
 wakes_on reply.Woken e = absurd (false≢true (ap is_waking e))
 wakes_on _ e = absurd (false≢true (ap is_waking e))

@@ -1,12 +1,13 @@
 -- How a simulated machine is kept.
-use Rattle.std.specs.Prelude.{◌≡◌, ◌≢◌, ◌<◌, ◌≤◌, length, true, false, ⊤}
+use Rattle.std.specs.Prelude.{◌≡◌, ◌≢◌, ◌<◌, ◌≤◌, length, true, ⊤}
 use Rattle.definitions.specs.Zones.{top}
 use Rattle.plain_machine.specs.Machine.{block_of_slot}
 use Rattle.plain_machine.specs.declared.held.Held.TheVariants.{No}
 use Rattle.machine.specs.Running.{AreReserved, CanRun}
 use Rattle.hib_core.specs.Ready.{CanStep, IsBusy}
 use Rattle.resume_core.specs.Ready as resumption
-use Rattle.sleep_core.specs.Waking.{is_over}
+use Rattle.sleep_core.specs.Waking.{phase_of}
+use Rattle.sleep_core.specs.declared.phase.Phase.TheVariants.{UnderWay}
 use Rattle.world_core.specs.declared.world.Core.{Core}
 use Rattle.world_core.specs.declared.world.Core.TheVariants.{Off, Running, BootBegun, BootSynced, Hibernating, Asleep}
 use Rattle.world_core.specs.declared.world.Core.TheVariants.{Waking, Loading}
@@ -61,5 +62,5 @@ pub record IsKept (a : Inside) : Type 0 where
   pub header : IsUp a.core → a.machine.held ≢ No → block_of_slot a.machine.hw 0 < a.machine.blocks
   pub place : IsDown a.core → block_of_slot a.machine.hw 0 < a.machine.blocks
   pub busy : a.core ≡ Hibernating → CanStep a.machine a.frames a.runs a.hib × IsBusy a.hib
-  pub wakes : a.core ≡ Waking → is_over a.waker ≡ false
+  pub wakes : a.core ≡ Waking → phase_of a.waker ≡ UnderWay
   pub loads : a.core ≡ Loading → resumption.CanStep a.machine a.frames a.runs a.load × resumption.IsBusy a.load

@@ -13,20 +13,24 @@ use Rattle.plain_machine.specs.Stands.{Stands}
 use Rattle.plain_machine.specs.declared.event.IdentCheck.{IdentCheck}
 use Rattle.plain_machine.specs.declared.event.Loader.{Loader}
 use Rattle.plain_machine.specs.declared.reply.Reply.{Reply}
-use Rattle.plain_machine.specs.declared.reply.Reply.TheVariants as reply
 use Rattle.placement.specs.Waiting.{waiting_pages}
 use Rattle.machine.specs.Running.{reason_of}
 use Rattle.machine.specs.declared.machine.Machine.{Machine}
 use Rattle.hib_core.specs.Hibernation as hibernation
-use Rattle.hib_core.specs.Hibernation.{Phase, under_way, runs_on, switched_off, asleep}
 use Rattle.hib_core.specs.Ready.{IsBusy}
 use Rattle.hib_core.specs.Row.{IsOfState}
 use Rattle.hib_core.specs.declared.hib.Hib.{Hib}
+use Rattle.hib_core.specs.declared.phase.Phase.{Phase}
+use Rattle.hib_core.specs.declared.phase.Phase.TheVariants as phase
 use Rattle.resume_core.specs.Loading as resumption
 use Rattle.resume_core.specs.Ready as resume_ready
 use Rattle.resume_core.specs.Row as resume_row
 use Rattle.resume_core.specs.declared.load.Load.{Load}
+use Rattle.resume_core.specs.declared.phase.Phase.{Phase as LoadPhase}
+use Rattle.resume_core.specs.declared.phase.Phase.TheVariants as load_phase
 use Rattle.sleep_core.specs.Waking as waking
+use Rattle.sleep_core.specs.declared.phase.Phase.{Phase as WakingPhase}
+use Rattle.sleep_core.specs.declared.phase.Phase.TheVariants as waking_phase
 use Rattle.sleep_core.specs.declared.waker.Waker.{Waker}
 use Rattle.world_core.specs.declared.world.Core.{Core}
 use Rattle.world_core.specs.declared.world.Core.TheVariants.{Off, Running, BootBegun, BootSynced, Hibernating, Asleep}
@@ -126,22 +130,28 @@ core_at _ = Running
 
 -- what it is at by the phase of a hibernation or a settling, and after this reply to its begin or a step of it
 abbrev pub core_in : Phase → Core
-core_in under_way = Hibernating
-core_in runs_on = Running
-core_in switched_off = Off false
-core_in asleep = Asleep
+core_in phase.UnderWay = Hibernating
+core_in phase.Runs = Running
+core_in phase.Off = Off false
+core_in phase.Asleep = Asleep
 
 abbrev pub core_told : Reply → Core
 core_told r = core_in (hibernation.phase_told r)
 
--- after a step of a waking the machine wakes on, runs or sleeps again
-abbrev pub core_woken : Reply → Core
-core_woken (reply.More k of) = Waking
-core_woken reply.Woken = Running
-core_woken _ = Asleep
+-- what it is at by the phase of a waking, and after this reply to a step of one
+abbrev pub core_waking : WakingPhase → Core
+core_waking waking_phase.UnderWay = Waking
+core_waking waking_phase.Runs = Running
+core_waking waking_phase.Asleep = Asleep
 
-abbrev pub core_resumed : Loader → Reply → Core
-core_resumed loader r = core_at (resumption.activity_told loader r)
+abbrev pub core_woken : Reply → Core
+core_woken r = core_waking (waking.phase_told r)
+
+-- what it is at by the phase of a resume
+abbrev pub core_loading : LoadPhase → Core
+core_loading load_phase.UnderWay = Loading
+core_loading load_phase.Runs = Running
+core_loading load_phase.Off = Off false
 
 -- memory is a dump's and fits, or nothing is kept
 abbrev pub IsKeptDump : Hardware → Memory → Bool → Option Memory → Type 0

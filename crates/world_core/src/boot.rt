@@ -30,6 +30,7 @@ impl World {
     ghost use Rattle.plain_machine.specs.declared.event.Event.TheVariants as event;
     ghost use Rattle.plain_machine.specs.declared.event.Actor.TheVariants as actor;
     ghost use Rattle.world_core.specs.declared.world.Core.TheVariants as core;
+    ghost use Rattle.world_core.specs.Stepped.{HasStepped};
     ghost use Rattle.world_core.specs.StandsFor.{hardware_of, blocks_of, keeps_dump, IsOff, IsBusyIn};
     ghost use Rattle.plain_machine.specs.declared.reply.Reply.TheVariants as reply;
     ghost use Rattle.world_core.specs.StepsLeft.{steps_left};
@@ -86,17 +87,9 @@ impl World {
     /// Makes the first step of a boot, a sync. If it succeeds, the disk has one image.
     pub(crate) fn sync_for_boot<D: Disk>(&mut self, disk: &mut D, from: BootFrom) -> Reply
         requires begun { self.old.core ≡ core.BootBegun from }
-        ensures row { SimulatesWhereTold (event.Step actor.Core) self.old self.new result (D.content disk.old)
-            (D.content disk.new) }
-        ensures restored { Restores (event.Step actor.Core) self.old self.new result (D.content disk.old)
-            (D.content disk.new) }
-        ensures image { TellsImage (event.Step actor.Core) self.old result (D.content disk.old) }
-        ensures works { result ≢ reply.Idle }
-        ensures fewer { steps_left self.new < steps_left self.old }
+        ensures stepped { HasStepped self.old self.new result (D.content disk.old) (D.content disk.new) }
         ensures called { Called D.Disk (CallsAtMostOnce (event.Step actor.Core) result) (TellsNewFault result)
             disk.old disk.new }
-        ensures hardware { hardware_of self.new ≡ hardware_of self.old }
-        ensures blocks { blocks_of self.new ≡ blocks_of self.old }
     {
         match disk.sync() {
             Ok(()) => {
@@ -114,17 +107,9 @@ impl World {
     pub(crate) fn finish_boot<D: Disk>(&mut self, disk: &mut D, from: BootFrom) -> Reply
         requires synced { self.old.core ≡ core.BootSynced from }
         requires blocks { D.block_count disk.old ≡ blocks_of self.old }
-        ensures row { SimulatesWhereTold (event.Step actor.Core) self.old self.new result (D.content disk.old)
-            (D.content disk.new) }
-        ensures restored { Restores (event.Step actor.Core) self.old self.new result (D.content disk.old)
-            (D.content disk.new) }
-        ensures image { TellsImage (event.Step actor.Core) self.old result (D.content disk.old) }
-        ensures works { result ≢ reply.Idle }
-        ensures fewer { steps_left self.new < steps_left self.old }
+        ensures stepped { HasStepped self.old self.new result (D.content disk.old) (D.content disk.new) }
         ensures called { Called D.Disk (CallsAtMostOnce (event.Step actor.Core) result) (TellsNewFault result)
             disk.old disk.new }
-        ensures hardware { hardware_of self.new ≡ hardware_of self.old }
-        ensures blocks { blocks_of self.new ≡ blocks_of self.old }
     {
         let mut header = Page::zero();
         let block = self.machine.hw.extents().block(0);

@@ -1,10 +1,10 @@
 ghost use Rattle.std.specs.Prelude.{◌≡◌, ◌≢◌, ◌<◌};
-ghost use Rattle.world_core.specs.StandsFor.{core_told};
+ghost use Rattle.world_core.specs.StandsFor.{core_in};
 ghost use Rattle.sector_disk.specs.Called.{Called};
 
 use crate::World;
 use crate::world::Core;
-use hib_core::Job;
+use hib_core::{Job, Phase};
 use plain_machine::Reply;
 use sector_disk::Disk;
 
@@ -17,6 +17,7 @@ impl World {
     ghost use Rattle.protocol_laws.specs.Rows.{TellsNewFault};
     ghost use Rattle.hib_core.specs.Row.{event_of};
     ghost use Rattle.world_core.specs.declared.world.Core.TheVariants as core;
+    ghost use Rattle.world_core.specs.Stepped.{HasStepped};
     ghost use Rattle.world_core.specs.StandsFor.{hardware_of, blocks_of, IsOff};
     ghost use Rattle.world_core.specs.StepsLeft.{steps_left};
     ghost use Rattle.world_core.specs.Row.{SimulatesWhereTold, Simulates, CallsAtMostOnce, IsRefused, ChangesNothing};
@@ -61,7 +62,8 @@ impl World {
         let reply = self
             .hib
             .begin(&mut self.machine, &mut self.frames, &mut self.runs, job);
-        self.core = core_after(&reply);
+        let phase = self.hib.phase();
+        self.core = core_in(phase);
         reply
     }
 
@@ -69,17 +71,9 @@ impl World {
     pub(crate) fn step_hibernation<D: Disk>(&mut self, disk: &mut D) -> Reply
         requires hibernates { self.old.core ≡ core.Hibernating }
         requires blocks { D.block_count disk.old ≡ blocks_of self.old }
-        ensures row { SimulatesWhereTold (event.Step actor.Core) self.old self.new result (D.content disk.old)
-            (D.content disk.new) }
-        ensures restored { Restores (event.Step actor.Core) self.old self.new result (D.content disk.old)
-            (D.content disk.new) }
-        ensures image { TellsImage (event.Step actor.Core) self.old result (D.content disk.old) }
-        ensures works { result ≢ reply.Idle }
-        ensures fewer { steps_left self.new < steps_left self.old }
+        ensures stepped { HasStepped self.old self.new result (D.content disk.old) (D.content disk.new) }
         ensures called { Called D.Disk (CallsAtMostOnce (event.Step actor.Core) result) (TellsNewFault result)
             disk.old disk.new }
-        ensures hardware { hardware_of self.new ≡ hardware_of self.old }
-        ensures blocks { blocks_of self.new ≡ blocks_of self.old }
         ensures memory { KeepsUsedFrames self.old self.new result }
     {
         // Reading the length tells the prover that each page frame has 4096 bytes.
@@ -87,19 +81,20 @@ impl World {
         let reply = self
             .hib
             .step(&mut self.machine, &mut self.frames, &mut self.runs, disk);
-        self.core = core_after(&reply);
+        let phase = self.hib.phase();
+        self.core = core_in(phase);
         reply
     }
 }
 
-/// Returns what the machine is at after this reply to the begin or a step of a hibernation or a settling.
-fn core_after(reply: &Reply) -> Core
-    ensures { result ≡ core_told reply.now }
+/// Returns what the machine is at in this phase of a hibernation or a settling.
+fn core_in(phase: Phase) -> Core
+    ensures { result ≡ core_in phase }
 {
-    match reply {
-        Reply::More { .. } | Reply::Undo { .. } => Core::Hibernating,
-        Reply::Hibernated { .. } => Core::Off { keeps_dump: false },
-        Reply::Asleep { .. } => Core::Asleep,
-        _ => Core::Running,
+    match phase {
+        Phase::UnderWay => Core::Hibernating,
+        Phase::Runs => Core::Running,
+        Phase::Off => Core::Off { keeps_dump: false },
+        Phase::Asleep => Core::Asleep,
     }
 }

@@ -1,11 +1,12 @@
 ghost use Rattle.std.specs.Prelude.{◌≡◌, ◌≢◌, ◌<◌, ◌≤◌, ℕ, ◌⊎◌, true};
 ghost use Rattle.plain_machine.specs.Refusals.{asks_dump_to_load};
-ghost use Rattle.world_core.specs.StandsFor.{core_resumed, is_off};
+ghost use Rattle.world_core.specs.StandsFor.{core_loading};
 ghost use Rattle.sector_disk.specs.Called.{Called};
 
 use crate::World;
 use crate::world::Core;
 use plain_machine::{IdentCheck, Loader, Reply};
+use resume_core::Phase;
 use sector_disk::Disk;
 
 // A resume: its begin and its steps (software_resume, kernel/power/hibernate.c).
@@ -15,6 +16,7 @@ impl World {
     ghost use Rattle.plain_machine.specs.declared.event.Actor.TheVariants as actor;
     ghost use Rattle.protocol_laws.specs.Rows.{TellsNewFault};
     ghost use Rattle.world_core.specs.declared.world.Core.TheVariants as core;
+    ghost use Rattle.world_core.specs.Stepped.{HasStepped};
     ghost use Rattle.world_core.specs.StandsFor.{hardware_of, blocks_of, IsOff, keeps_dump};
     ghost use Rattle.plain_machine.specs.declared.reply.Reply.TheVariants as reply;
     ghost use Rattle.world_core.specs.StepsLeft.{Ends, steps_left};
@@ -57,7 +59,8 @@ impl World {
         let reply = self
             .load
             .begin(&self.machine, &mut self.frames, loader, check);
-        self.core = core_after(&reply, &loader);
+        let phase = self.load.phase();
+        self.core = core_in(phase);
         reply
     }
 
@@ -65,23 +68,16 @@ impl World {
     pub(crate) fn step_resume<D: Disk>(&mut self, disk: &mut D) -> Reply
         requires resumes { self.old.core ≡ core.Loading }
         requires blocks { D.block_count disk.old ≡ blocks_of self.old }
-        ensures row { SimulatesWhereTold (event.Step actor.Core) self.old self.new result (D.content disk.old)
-            (D.content disk.new) }
-        ensures restored { Restores (event.Step actor.Core) self.old self.new result (D.content disk.old)
-            (D.content disk.new) }
-        ensures image { TellsImage (event.Step actor.Core) self.old result (D.content disk.old) }
-        ensures works { result ≢ reply.Idle }
-        ensures fewer { steps_left self.new < steps_left self.old }
+        ensures stepped { HasStepped self.old self.new result (D.content disk.old) (D.content disk.new) }
         ensures stopped { ((k : ℕ) → result ≢ reply.Loading k) → ((n : ℕ) → result ≢ reply.Resumed n) → IsOff self.new }
         ensures called { Called D.Disk (CallsAtMostOnce (event.Step actor.Core) result) (TellsNewFault result)
             disk.old disk.new }
-        ensures hardware { hardware_of self.new ≡ hardware_of self.old }
-        ensures blocks { blocks_of self.new ≡ blocks_of self.old }
     {
         let reply = self
             .load
             .step(&mut self.machine, &mut self.frames, &mut self.runs, disk);
-        self.core = core_after(&reply, &self.load.loader());
+        let phase = self.load.phase();
+        self.core = core_in(phase);
         reply
     }
 }
@@ -93,15 +89,13 @@ fn asks_dump(loader: &Loader) -> bool
     matches!(loader, Loader::Table)
 }
 
-/// Returns what the machine is at after this reply to the begin or a step of a resume with this loader.
-fn core_after(reply: &Reply, loader: &Loader) -> Core
-    ensures is { result ≡ core_resumed loader.now reply.now }
-    ensures off { ((k : ℕ) → reply.now ≢ Reply.Loading k) → ((n : ℕ) → reply.now ≢ Reply.Resumed n) →
-        is_off result ≡ true }
+/// Returns what the machine is at in this phase of a resume.
+fn core_in(phase: Phase) -> Core
+    ensures { result ≡ core_loading phase }
 {
-    match (reply, loader) {
-        (Reply::Loading { .. }, _) => Core::Loading,
-        (Reply::Resumed { .. }, Loader::Ranges(_)) => Core::Running,
-        _ => Core::Off { keeps_dump: false },
+    match phase {
+        Phase::UnderWay => Core::Loading,
+        Phase::Runs => Core::Running,
+        Phase::Off => Core::Off { keeps_dump: false },
     }
 }

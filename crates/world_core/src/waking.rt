@@ -2,7 +2,7 @@ ghost use Rattle.std.specs.Prelude.{◌≡◌, ◌≢◌, ◌<◌, length};
 ghost use Rattle.machine.specs.Running.{slot_table_of};
 ghost use Rattle.sleep_core.specs.Row.{IsLeft};
 ghost use Rattle.swap_slots.specs.Table.{LiesIn, Matches};
-ghost use Rattle.world_core.specs.StandsFor.{core_woken};
+ghost use Rattle.world_core.specs.StandsFor.{core_waking};
 ghost use Rattle.sector_disk.specs.Called.{Called};
 
 use crate::World;
@@ -11,7 +11,7 @@ use frame_arena::Frames;
 use machine::{Machine, slot_table};
 use plain_machine::{Held, Reply};
 use sector_disk::Disk;
-use sleep_core::Waker;
+use sleep_core::{Phase, Waker};
 use swap_slots::FreeRuns;
 
 // Waking after a suspend to both: the mark of the image is taken back before the machine runs (swsusp_unmark,
@@ -23,6 +23,7 @@ impl World {
     ghost use Rattle.plain_machine.specs.declared.reply.Reply.TheVariants as reply;
     ghost use Rattle.protocol_laws.specs.Rows.{TellsNewFault};
     ghost use Rattle.world_core.specs.declared.world.Core.TheVariants as core;
+    ghost use Rattle.world_core.specs.Stepped.{HasStepped};
     ghost use Rattle.world_core.specs.StandsFor.{hardware_of, blocks_of, IsOff};
     ghost use Rattle.world_core.specs.StepsLeft.{steps_left};
     ghost use Rattle.world_core.specs.Row.{SimulatesWhereTold, Simulates, CallsAtMostOnce, IsRefused, ChangesNothing};
@@ -60,17 +61,9 @@ impl World {
     pub(crate) fn step_wake<D: Disk>(&mut self, disk: &mut D) -> Reply
         requires wakes { self.old.core ≡ core.Waking }
         requires blocks { D.block_count disk.old ≡ blocks_of self.old }
-        ensures row { SimulatesWhereTold (event.Step actor.Core) self.old self.new result (D.content disk.old)
-            (D.content disk.new) }
-        ensures restored { Restores (event.Step actor.Core) self.old self.new result (D.content disk.old)
-            (D.content disk.new) }
-        ensures image { TellsImage (event.Step actor.Core) self.old result (D.content disk.old) }
-        ensures works { result ≢ reply.Idle }
-        ensures fewer { steps_left self.new < steps_left self.old }
+        ensures stepped { HasStepped self.old self.new result (D.content disk.old) (D.content disk.new) }
         ensures called { Called D.Disk (CallsAtMostOnce (event.Step actor.Core) result) (TellsNewFault result)
             disk.old disk.new }
-        ensures hardware { hardware_of self.new ≡ hardware_of self.old }
-        ensures blocks { blocks_of self.new ≡ blocks_of self.old }
         ensures memory { WakesWith self.old self.new result }
     {
         // Reading the length tells the prover that each page frame has 4096 bytes.
@@ -79,7 +72,8 @@ impl World {
         let _zones = self.machine.hw.zones();
         let reply = self.waker.step(&self.machine, disk);
         leave(&mut self.machine, &mut self.frames, &mut self.runs, &reply);
-        self.core = core_after(&reply);
+        let phase = self.waker.phase();
+        self.core = core_in(phase);
         reply
     }
 }
@@ -99,13 +93,13 @@ fn leave(machine: &mut Machine, frames: &mut Frames, runs: &mut FreeRuns, reply:
     }
 }
 
-/// Returns what the machine is at after this reply to a step of waking.
-fn core_after(reply: &Reply) -> Core
-    ensures { result ≡ core_woken reply.now }
+/// Returns what the machine is at in this phase of a waking.
+fn core_in(phase: Phase) -> Core
+    ensures { result ≡ core_waking phase }
 {
-    match reply {
-        Reply::More { .. } => Core::Waking,
-        Reply::Woken => Core::Running,
-        _ => Core::Asleep,
+    match phase {
+        Phase::UnderWay => Core::Waking,
+        Phase::Runs => Core::Running,
+        Phase::Asleep => Core::Asleep,
     }
 }

@@ -1,4 +1,4 @@
-use Rattle.std.proofs.Common.{◌≡◌, ◌≤◌, ℕ, length, refl, sym, ap, ◌∙◌, subst, arith}
+use Rattle.std.proofs.Common.{◌≡◌, ◌≤◌, ℕ, length, rules, refl, sym, ap, ◌∙◌, subst, arith}
 use Rattle.definitions.specs.FreeRuns.{free_runs}
 use Rattle.placement.specs.Waiting.{Awaiting}
 use Rattle.swap_slots.specs.Runs.{SlotRuns}
@@ -34,8 +34,8 @@ returns-in-Err-clause-row c = λ chain at d l v k read places room over.
     subst (λ (r : Reply). EndsOn c.args.machine.now c.args.frames.now c.args.self.now c.in-Read.chain c.args.machine.now c.finish.new.frames c.stop-in-Err.new.self r) (sym c.stop-in-Err.ensures.reply) row d l v k
     (subst (λ (x : OpenChain). HasRead c.args.machine.now c.args.frames.now c.args.self.now x d l v k) (same_read chain c.in-Read.chain (sym at ∙ c.in-Read.is)) read) places room over
 
-pub returns-in-Ok-clause-ready : goal.returns-in-Ok-clause-ready
-returns-in-Ok-clause-ready c =
+pub returns-in-Ok-clause-proceeded : goal.returns-in-Ok-clause-proceeded
+returns-in-Ok-clause-proceeded c =
     let over = c.requires.ready.over in
     let h = c.args.machine.now.hw in
     let size : length c.finish.new.frames ≡ length c.args.frames.now = c.finish.ensures.size in
@@ -45,22 +45,29 @@ returns-in-Ok-clause-ready c =
       runs = ap (λ (x : SlotRuns). x.runs) c.rebuild.ensures ∙ ap (λ (t : SlotTable). free_runs t.slots t.first c.finish.new.frames) c.slot_table.ensures.table;
     } in
     record {
-      over = record {
-        hardware = over.hardware;
-        few = over.few;
-        size = size ∙ over.size;
-        table = (let lies = over.table in omega arith);
-        room = room;
-        origs = over.origs;
-        zeros = over.zeros;
-        waiting = ap (λ (x : Awaiting). x.zones) c.finish.ensures.waiting ∙ over.waiting;
+      activity = search rules;
+      loader = search rules;
+      works = search rules;
+      ready = record {
+        over = record {
+          hardware = over.hardware;
+          few = over.few;
+          size = size ∙ over.size;
+          table = (let lies = over.table in omega arith);
+          room = room;
+          origs = over.origs;
+          zeros = over.zeros;
+          waiting = ap (λ (x : Awaiting). x.zones) c.finish.ensures.waiting ∙ over.waiting;
+        };
+        next = record {
+          area = refl;
+          usable = c.in-Ok.ensures.fits;
+          matches = matches;
+          unheld = refl;
+          reserved = c.in-Ok.ensures.reserved;
+          idle = λ t. flights-none 64 t;
+        };
       };
-      next = record {
-        area = refl;
-        usable = c.in-Ok.ensures.fits;
-        matches = matches;
-        unheld = refl;
-        reserved = c.in-Ok.ensures.reserved;
-        idle = λ t. flights-none 64 t;
-      };
+      no_fault = search rules;
+      machine = record { hw = refl; blocks = refl };
     }

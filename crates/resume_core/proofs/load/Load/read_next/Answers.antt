@@ -54,103 +54,129 @@ read_on-requires-in-More g c =
       stage = search rules;
     }
 
-pub returns-in-Fault-clause-row : goal.returns-in-Fault-clause-row
-returns-in-Fault-clause-row g c = λ k told.
-    let load = c.args.self.now in
-    let read = c.read_in_place.ensures.read in (
-      k,
-      c.read_in_place.ensures.content ∙ told,
-      row_of c.args.machine.now c.args.frames.now load c.args.machine.now c.read_in_place.new.frames _ c.stop.new.self (reply.ReadFault Gone) c.stop.result k k c.stop.ensures.load c.stop.ensures.reply
-          (read_failed_row c.args.machine.now c.args.frames.now c.read_in_place.new.frames load _ read.chain k (activity_is load (stage.Read read.chain) read.was)
-          (at_read c.args.machine.now c.args.frames.now load read.chain k c.requires.ready.over.hardware read.was (read_can c.args.machine.now c.args.frames.now c.args.runs.now load read.chain read.was c.requires.ready).1) refl),
-    )
+pub returns-in-Fault-clause-stepped : goal.returns-in-Fault-clause-stepped
+returns-in-Fault-clause-stepped g c = record {
+  row = λ k told.
+      let load = c.args.self.now in
+      let read = c.read_in_place.ensures.read in (
+        k,
+        c.read_in_place.ensures.content ∙ told,
+        row_of c.args.machine.now c.args.frames.now load c.args.machine.now c.read_in_place.new.frames _ c.stop.new.self (reply.ReadFault Gone) c.stop.result k k c.stop.ensures.load c.stop.ensures.reply
+            (read_failed_row c.args.machine.now c.args.frames.now c.read_in_place.new.frames load _ read.chain k (activity_is load (stage.Read read.chain) read.was)
+            (at_read c.args.machine.now c.args.frames.now load read.chain k c.requires.ready.over.hardware read.was (read_can c.args.machine.now c.args.frames.now c.args.runs.now load read.chain read.was c.requires.ready).1) refl),
+      );
+  activity = search rules;
+  loader = search rules;
+  works = search rules;
+  ready = search rules;
+  fewer = search rules;
+  machine = record { hw = refl; blocks = refl };
+}
 
-pub returns-in-Refused-clause-row : goal.returns-in-Refused-clause-row
-returns-in-Refused-clause-row g c = λ k told.
-    let load = c.args.self.now in
-    let read = c.read_in_place.ensures.read in
-    let load' = c.read_in_place.new.self in
-    let chain' = record read.chain { reader = read.reader } in
-    let mid = record load { stage = stage.Read chain'; origs = load'.origs; zeros = load'.zeros; page = read.page } in (
-      k,
-      c.read_in_place.ensures.content ∙ told,
-      row_of c.args.machine.now c.args.frames.now load c.args.machine.now c.read_in_place.new.frames _ c.stop-in-Refused.new.self (reply_of c.in-Refused.cause) c.stop-in-Refused.result k k c.stop-in-Refused.ensures.load (c.stop-in-Refused.ensures.reply ∙ c.from.ensures)
-          (refused_row c.args.machine.now c.args.frames.now c.read_in_place.new.frames load mid _ read.chain chain' c.read_in_place.result c.in-Refused.cause k c.requires.ready.over.hardware read.was
-          (read_can c.args.machine.now c.args.frames.now c.args.runs.now load read.chain read.was c.requires.ready).1
-          c.in-Refused.is (λ v t has reads. read.answers v t has (subst (Reads c.args.machine.now.hw v) (sym told) reads)) refl),
-    )
+pub returns-in-Refused-clause-stepped : goal.returns-in-Refused-clause-stepped
+returns-in-Refused-clause-stepped g c = record {
+  row = λ k told.
+      let load = c.args.self.now in
+      let read = c.read_in_place.ensures.read in
+      let load' = c.read_in_place.new.self in
+      let chain' = record read.chain { reader = read.reader } in
+      let mid = record load { stage = stage.Read chain'; origs = load'.origs; zeros = load'.zeros; page = read.page } in (
+        k,
+        c.read_in_place.ensures.content ∙ told,
+        row_of c.args.machine.now c.args.frames.now load c.args.machine.now c.read_in_place.new.frames _ c.stop-in-Refused.new.self (reply_of c.in-Refused.cause) c.stop-in-Refused.result k k c.stop-in-Refused.ensures.load (c.stop-in-Refused.ensures.reply ∙ c.from.ensures)
+            (refused_row c.args.machine.now c.args.frames.now c.read_in_place.new.frames load mid _ read.chain chain' c.read_in_place.result c.in-Refused.cause k c.requires.ready.over.hardware read.was
+            (read_can c.args.machine.now c.args.frames.now c.args.runs.now load read.chain read.was c.requires.ready).1
+            c.in-Refused.is (λ v t has reads. read.answers v t has (subst (Reads c.args.machine.now.hw v) (sym told) reads)) refl),
+      );
+  activity = search rules;
+  loader = search rules;
+  works = search rules;
+  ready = search rules;
+  fewer = search rules;
+  machine = record { hw = refl; blocks = refl };
+}
 
-pub returns-in-Page-clause-row : goal.returns-in-Page-clause-row
-returns-in-Page-clause-row g c = λ k told.
-    let whole = content_of (g.D.Disk.block_count c.args.disk.now) c.args.machine.now.blocks (g.D.Disk.content c.args.disk.now) k told c.requires.blocks (g.met.D.Disk.well_formed c.args.disk.now) in
-    let load = c.args.self.now in
-    let read = c.read_in_place.ensures.read in
-    let load' = c.read_in_place.new.self in
-    let frames' = c.read_in_place.new.frames in
-    let chain' = record read.chain { reader = read.reader } in
-    let mid = record load { stage = stage.Read chain'; origs = load'.origs; zeros = load'.zeros; page = read.page } in
-    let waiting = c.count_page.new.waiting in
-    let kept : load'.waiting ≡ load.waiting = ap (λ (x : Load). x.waiting) c.read_in_place.ensures.load in
-    let counted = subst (λ (w : Awaiting). w.loaded < length w.originals → waiting ≡ record w { loaded = w.loaded + 1 }) kept c.count_page.ensures.counted in (
-      k,
-      c.read_in_place.ensures.content ∙ told,
-      read_on_row c.args.machine.now c.args.frames.now frames' load mid (record load' { waiting = waiting }) read.chain chain'
-          c.read_on.new.machine c.read_on.new.frames c.read_on.new.self c.read_in_place.result c.read_on.result k
-          c.requires.ready.over.hardware read.was (read_can c.args.machine.now c.args.frames.now c.args.runs.now load read.chain read.was c.requires.ready).1 c.read_on.ensures.machine.hw whole
-          refl refl (ap (λ (x : Load). record x { waiting = waiting }) (now_reads load load' chain' c.read_in_place.ensures.load read.stays))
-          (ap (λ (w : Awaiting). w.free) (c.count_page.ensures.waiting) ∙ ap (λ (w : Awaiting). w.free) kept) (inr (inl (c.in-Page.pfn, c.in-Page.is)))
-          read.puts.others
-          (λ v t has reads. read.answers v t has (subst (Reads c.args.machine.now.hw v) (sym told) reads))
-          (page_keeps c.args.machine.now.hw c.args.frames.now frames' load.waiting waiting read.chain chain' load mid c.read_in_place.result c.in-Page.pfn c.in-Page.is
-          (ap (λ (w : Awaiting). w.originals) c.count_page.ensures.waiting ∙ ap (λ (w : Awaiting). w.originals) kept)
-          (λ left. ap (waiting_pages frames') (counted left) ∙ read.puts.next left)
-          (λ left. ap (λ (w : Awaiting). w.loaded) (counted left)))
-          (c.read_on.ensures.row chain' read.stays),
-    )
+pub returns-in-Page-clause-stepped : goal.returns-in-Page-clause-stepped
+returns-in-Page-clause-stepped g c = record {
+  row = λ k told.
+      let whole = content_of (g.D.Disk.block_count c.args.disk.now) c.args.machine.now.blocks (g.D.Disk.content c.args.disk.now) k told c.requires.blocks (g.met.D.Disk.well_formed c.args.disk.now) in
+      let load = c.args.self.now in
+      let read = c.read_in_place.ensures.read in
+      let load' = c.read_in_place.new.self in
+      let frames' = c.read_in_place.new.frames in
+      let chain' = record read.chain { reader = read.reader } in
+      let mid = record load { stage = stage.Read chain'; origs = load'.origs; zeros = load'.zeros; page = read.page } in
+      let waiting = c.count_page.new.waiting in
+      let kept : load'.waiting ≡ load.waiting = ap (λ (x : Load). x.waiting) c.read_in_place.ensures.load in
+      let counted = subst (λ (w : Awaiting). w.loaded < length w.originals → waiting ≡ record w { loaded = w.loaded + 1 }) kept c.count_page.ensures.counted in (
+        k,
+        c.read_in_place.ensures.content ∙ told,
+        read_on_row c.args.machine.now c.args.frames.now frames' load mid (record load' { waiting = waiting }) read.chain chain'
+            c.read_on.new.machine c.read_on.new.frames c.read_on.new.self c.read_in_place.result c.read_on.result k
+            c.requires.ready.over.hardware read.was (read_can c.args.machine.now c.args.frames.now c.args.runs.now load read.chain read.was c.requires.ready).1 c.read_on.ensures.proceeded.machine.hw whole
+            refl refl (ap (λ (x : Load). record x { waiting = waiting }) (now_reads load load' chain' c.read_in_place.ensures.load read.stays))
+            (ap (λ (w : Awaiting). w.free) (c.count_page.ensures.waiting) ∙ ap (λ (w : Awaiting). w.free) kept) (inr (inl (c.in-Page.pfn, c.in-Page.is)))
+            read.puts.others
+            (λ v t has reads. read.answers v t has (subst (Reads c.args.machine.now.hw v) (sym told) reads))
+            (page_keeps c.args.machine.now.hw c.args.frames.now frames' load.waiting waiting read.chain chain' load mid c.read_in_place.result c.in-Page.pfn c.in-Page.is
+            (ap (λ (w : Awaiting). w.originals) c.count_page.ensures.waiting ∙ ap (λ (w : Awaiting). w.originals) kept)
+            (λ left. ap (waiting_pages frames') (counted left) ∙ read.puts.next left)
+            (λ left. ap (λ (w : Awaiting). w.loaded) (counted left)))
+            (c.read_on.ensures.row chain' read.stays),
+      );
+  activity = search rules;
+  loader = search rules;
+  works = c.read_on.ensures.proceeded.works;
+  ready = c.read_on.ensures.proceeded.ready;
+  fewer =
+      let read = c.read_in_place.ensures.read in
+      let load' = c.read_in_place.new.self in
+      let less = place_less c.read_in_place.result read.chain.reader read.reader load'.origs.members load'.zeros.members (inr (c.in-Page.pfn, c.in-Page.is)) read.goes_on in
+      let left = c.read_on.ensures.left (record read.chain { reader = read.reader }) read.stays in
+      let was = ap loading_steps_left_at read.was in
+      omega arith;
+  machine = c.read_on.ensures.proceeded.machine;
+}
 
-pub returns-in-More-clause-row : goal.returns-in-More-clause-row
-returns-in-More-clause-row g c = λ k told.
-    let whole = content_of (g.D.Disk.block_count c.args.disk.now) c.args.machine.now.blocks (g.D.Disk.content c.args.disk.now) k told c.requires.blocks (g.met.D.Disk.well_formed c.args.disk.now) in
-    let load = c.args.self.now in
-    let read = c.read_in_place.ensures.read in
-    let load' = c.read_in_place.new.self in
-    let frames' = c.read_in_place.new.frames in
-    let chain' = record read.chain { reader = read.reader } in
-    let mid = record load { stage = stage.Read chain'; origs = load'.origs; zeros = load'.zeros; page = read.page } in
-    let kept : load'.waiting ≡ load.waiting = ap (λ (x : Load). x.waiting) c.read_in_place.ensures.load in (
-      k,
-      c.read_in_place.ensures.content ∙ told,
-      read_on_row c.args.machine.now c.args.frames.now frames' load mid load' read.chain chain' c.read_on-in-More.new.machine c.read_on-in-More.new.frames c.read_on-in-More.new.self c.read_in_place.result c.read_on-in-More.result k
-          c.requires.ready.over.hardware read.was (read_can c.args.machine.now c.args.frames.now c.args.runs.now load read.chain read.was c.requires.ready).1 c.read_on-in-More.ensures.machine.hw whole
-          refl refl (ap (λ (x : Load). record x { waiting = load'.waiting }) (now_reads load load' chain' c.read_in_place.ensures.load read.stays))
-          (ap (λ (w : Awaiting). w.free) kept) (no_page c.read_in_place.result c.in-More.is) read.puts.others
-          (λ v t has reads. read.answers v t has (subst (Reads c.args.machine.now.hw v) (sym told) reads))
-          (subst (λ (w : Awaiting). KeepsPlaces c.args.machine.now.hw c.args.frames.now load.waiting frames' w read.chain chain' load mid c.read_in_place.result) (sym kept)
-          (map_keeps c.args.machine.now.hw c.args.frames.now frames' load.waiting read.chain chain' load mid c.read_in_place.result c.in-More.is read.puts.before))
-          (c.read_on-in-More.ensures.row chain' read.stays),
-    )
-
-pub returns-in-Page-clause-fewer : goal.returns-in-Page-clause-fewer
-returns-in-Page-clause-fewer g c =
-    let read = c.read_in_place.ensures.read in
-    let load' = c.read_in_place.new.self in
-    let less = place_less c.read_in_place.result read.chain.reader read.reader load'.origs.members load'.zeros.members (inr (c.in-Page.pfn, c.in-Page.is)) read.goes_on in
-    let left = c.read_on.ensures.left (record read.chain { reader = read.reader }) read.stays in
-    let was = ap loading_steps_left_at read.was in
-    omega arith
-
-pub returns-in-More-clause-fewer : goal.returns-in-More-clause-fewer
-returns-in-More-clause-fewer g c =
-    let read = c.read_in_place.ensures.read in
-    let load' = c.read_in_place.new.self in
-    let chain' = record read.chain { reader = read.reader } in
-    let was = ap loading_steps_left_at read.was in
-    elim c.in-More.is [
-      | inl more ↦
-          let less = place_less c.read_in_place.result read.chain.reader read.reader load'.origs.members load'.zeros.members (inl more) read.goes_on in
-          let left = c.read_on-in-More.ensures.left chain' read.stays in
-          omega arith
-      | inr done ↦
-          let none = c.read_on-in-More.ensures.ended chain' read.stays (read.over done) in
-          omega arith
-    ]
+pub returns-in-More-clause-stepped : goal.returns-in-More-clause-stepped
+returns-in-More-clause-stepped g c = record {
+  row = λ k told.
+      let whole = content_of (g.D.Disk.block_count c.args.disk.now) c.args.machine.now.blocks (g.D.Disk.content c.args.disk.now) k told c.requires.blocks (g.met.D.Disk.well_formed c.args.disk.now) in
+      let load = c.args.self.now in
+      let read = c.read_in_place.ensures.read in
+      let load' = c.read_in_place.new.self in
+      let frames' = c.read_in_place.new.frames in
+      let chain' = record read.chain { reader = read.reader } in
+      let mid = record load { stage = stage.Read chain'; origs = load'.origs; zeros = load'.zeros; page = read.page } in
+      let kept : load'.waiting ≡ load.waiting = ap (λ (x : Load). x.waiting) c.read_in_place.ensures.load in (
+        k,
+        c.read_in_place.ensures.content ∙ told,
+        read_on_row c.args.machine.now c.args.frames.now frames' load mid load' read.chain chain' c.read_on-in-More.new.machine c.read_on-in-More.new.frames c.read_on-in-More.new.self c.read_in_place.result c.read_on-in-More.result k
+            c.requires.ready.over.hardware read.was (read_can c.args.machine.now c.args.frames.now c.args.runs.now load read.chain read.was c.requires.ready).1 c.read_on-in-More.ensures.proceeded.machine.hw whole
+            refl refl (ap (λ (x : Load). record x { waiting = load'.waiting }) (now_reads load load' chain' c.read_in_place.ensures.load read.stays))
+            (ap (λ (w : Awaiting). w.free) kept) (no_page c.read_in_place.result c.in-More.is) read.puts.others
+            (λ v t has reads. read.answers v t has (subst (Reads c.args.machine.now.hw v) (sym told) reads))
+            (subst (λ (w : Awaiting). KeepsPlaces c.args.machine.now.hw c.args.frames.now load.waiting frames' w read.chain chain' load mid c.read_in_place.result) (sym kept)
+            (map_keeps c.args.machine.now.hw c.args.frames.now frames' load.waiting read.chain chain' load mid c.read_in_place.result c.in-More.is read.puts.before))
+            (c.read_on-in-More.ensures.row chain' read.stays),
+      );
+  activity = search rules;
+  loader = search rules;
+  works = c.read_on-in-More.ensures.proceeded.works;
+  ready = c.read_on-in-More.ensures.proceeded.ready;
+  fewer =
+      let read = c.read_in_place.ensures.read in
+      let load' = c.read_in_place.new.self in
+      let chain' = record read.chain { reader = read.reader } in
+      let was = ap loading_steps_left_at read.was in
+      elim c.in-More.is [
+        | inl more ↦
+            let less = place_less c.read_in_place.result read.chain.reader read.reader load'.origs.members load'.zeros.members (inl more) read.goes_on in
+            let left = c.read_on-in-More.ensures.left chain' read.stays in
+            omega arith
+        | inr done ↦
+            let none = c.read_on-in-More.ensures.ended chain' read.stays (read.over done) in
+            omega arith
+      ];
+  machine = c.read_on-in-More.ensures.proceeded.machine;
+}

@@ -9,6 +9,7 @@ use Rattle.plain_machine.specs.Machine.{block_of_slot}
 use Rattle.world_core.specs.World.{World}
 use Rattle.world_core.specs.Kept.{kept_world, IsUp}
 use Rattle.world_core.specs.Row.{Simulates}
+use Rattle.world_core.specs.StandsFor.{core_in}
 use Rattle.world_core.proofs.Hibernating.{row_of_begin, busy_told, never_loads, never_sleeps, never_wakes}
 use Rattle.world_core.proofs.Readiness.{can_run-same, entries_at_begin, no_tables_told}
 use Rattle.world_core.proofs.world.World.begin_job.Goals as goal
@@ -26,7 +27,7 @@ invariant_of-self c =
       zeros = c.self.invariant.zeros ∙ same;
       waiting = c.self.invariant.waiting ∙ same;
       room = subst (λ (m : Machine). m.hw.slots ≤ c.begin-reply.new.runs.room) (sym c.begin-reply.ensures.machine) c.begin-reply.ensures.matches.room;
-      tables = λ has. no_tables_told c.begin-reply.result c.core_after-self-inside.result c.core_after-self-inside.ensures has;
+      tables = λ has. no_tables_told c.begin-reply.result c.core_in-self-inside.result (c.core_in-self-inside.ensures ∙ ap core_in (c.phase-phase.ensures ∙ c.begin-reply.ensures.phase)) has;
       run = λ now.
           subst (λ (m : Machine). CanRun m c.begin-reply.new.frames c.begin-reply.new.runs) (sym c.begin-reply.ensures.machine)
           (can_run-same c.self.inside.machine c.self.inside.machine c.self.inside.frames c.begin-reply.new.frames c.self.inside.runs c.begin-reply.new.runs c.zones-zones.ensures.hardware (record { hw = refl; area = refl; blocks = refl; flights = refl })
@@ -34,19 +35,19 @@ invariant_of-self c =
           (entries_at_begin c.args.job c.self.inside.machine.hw c.self.inside.frames c.begin-reply.new.frames c.zones-zones.ensures.hardware can.reserved c.begin-reply.ensures.memory) can);
       header = λ now some.
           subst (λ (m : Machine). block_of_slot m.hw 0 < m.blocks) (sym c.begin-reply.ensures.machine) (c.self.invariant.header up (λ none. some (ap (λ (m : Machine). m.held) c.begin-reply.ensures.machine ∙ none)));
-      place = λ down. never_sleeps c.begin-reply.result c.core_after-self-inside.result c.core_after-self-inside.ensures c.begin-reply.ensures.begun down;
-      wakes = λ e. never_wakes c.begin-reply.result c.core_after-self-inside.result c.core_after-self-inside.ensures e;
+      place = λ down. never_sleeps c.begin-reply.result c.core_in-self-inside.result (c.core_in-self-inside.ensures ∙ ap core_in (c.phase-phase.ensures ∙ c.begin-reply.ensures.phase)) c.begin-reply.ensures.begun down;
+      wakes = λ e. never_wakes c.begin-reply.result c.core_in-self-inside.result (c.core_in-self-inside.ensures ∙ ap core_in (c.phase-phase.ensures ∙ c.begin-reply.ensures.phase)) e;
       busy = λ e.
-          let busy = busy_told c.begin-reply.new.self c.begin-reply.result c.core_after-self-inside.result c.core_after-self-inside.ensures c.begin-reply.ensures.phase e in
+          let busy = busy_told c.begin-reply.new.self c.begin-reply.result c.core_in-self-inside.result (c.core_in-self-inside.ensures ∙ ap core_in (c.phase-phase.ensures ∙ c.begin-reply.ensures.phase)) c.begin-reply.ensures.phase e in
           (c.begin-reply.ensures.ready busy, busy);
-      loads = λ e. never_loads c.begin-reply.result c.core_after-self-inside.result c.core_after-self-inside.ensures e;
+      loads = λ e. never_loads c.begin-reply.result c.core_in-self-inside.result (c.core_in-self-inside.ensures ∙ ap core_in (c.phase-phase.ensures ∙ c.begin-reply.ensures.phase)) e;
     }
 
 pub returns-clause-row : goal.returns-clause-row
 returns-clause-row c = λ k.
-    let new = kept_world (record { machine = c.begin-reply.new.machine; frames = c.begin-reply.new.frames; runs = c.begin-reply.new.runs; hib = c.begin-reply.new.self; load = c.self.inside.load; waker = c.self.inside.waker; core = c.core_after-self-inside.result }) in
+    let new = kept_world (record { machine = c.begin-reply.new.machine; frames = c.begin-reply.new.frames; runs = c.begin-reply.new.runs; hib = c.begin-reply.new.self; load = c.self.inside.load; waker = c.self.inside.waker; core = c.core_in-self-inside.result }) in
     subst (λ (old : World). Simulates (event_of c.args.job) old new c.begin-reply.result k k) c.self.view_is
-    (row_of_begin (kept_world c.self.inside) new c.args.job c.begin-reply.result k (ap (λ (w : World). w.core) c.self.view_is ∙ c.requires.running) c.core_after-self-inside.ensures c.begin-reply.ensures.machine c.begin-reply.ensures.phase (c.begin-reply.ensures.row k))
+    (row_of_begin (kept_world c.self.inside) new c.args.job c.begin-reply.result k (ap (λ (w : World). w.core) c.self.view_is ∙ c.requires.running) (c.core_in-self-inside.ensures ∙ ap core_in (c.phase-phase.ensures ∙ c.begin-reply.ensures.phase)) c.begin-reply.ensures.machine c.begin-reply.ensures.phase (c.begin-reply.ensures.row k))
 
 pub returns-clause-memory : goal.returns-clause-memory
 returns-clause-memory c =

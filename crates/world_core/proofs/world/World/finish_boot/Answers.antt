@@ -1,4 +1,4 @@
-use Rattle.std.proofs.Common.{◌≡◌, ℕ, inl, inr, false, List, Option, refl, ap, ◌∙◌, subst, arith}
+use Rattle.std.proofs.Common.{rules, ◌≡◌, ℕ, inl, inr, false, List, Option, refl, ap, ◌∙◌, subst, arith}
 use Rattle.std.proofs.lemmas.Bool.{cases_lt}
 use Rattle.definitions.specs.SwapHeader.{IsMarked}
 use Rattle.protocol_laws.proofs.HeaderBack.{zeros_unmarked}
@@ -36,38 +36,51 @@ start-requires-clause-on_disk g c = λ e.
       | inr past ↦ absurd (zeros_unmarked (subst IsMarked (c.read_header.ensures.beyond past) (marked_true c.read_header.new.into e)))
     ]
 
-pub returns-in-Err-clause-row : goal.returns-in-Err-clause-row
-returns-in-Err-clause-row g c = λ k told.
-    let old = kept_world c.self.inside in
-    let core = ap (λ (w : World). w.core) c.self.view_is ∙ c.requires.synced in
-    (k, c.read_header.ensures.content ∙ told, subst (λ (w : World). Simulates (event.Step actor.Core) w (record old { core = Off false }) (reply.ReadFault Same) k k) c.self.view_is (boot_read_fails old (record old { core = Off false }) k c.args.from core refl refl))
+pub returns-in-Err-clause-stepped : goal.returns-in-Err-clause-stepped
+returns-in-Err-clause-stepped g c = record {
+  row = λ k told.
+      let old = kept_world c.self.inside in
+      let core = ap (λ (w : World). w.core) c.self.view_is ∙ c.requires.synced in
+      (k, c.read_header.ensures.content ∙ told, subst (λ (w : World). Simulates (event.Step actor.Core) w (record old { core = Off false }) (reply.ReadFault Same) k k) c.self.view_is (boot_read_fails old (record old { core = Off false }) k c.args.from core refl refl));
+  restored = search rules;
+  image = search rules;
+  works = search rules;
+  fewer = search rules;
+  hardware = search rules;
+  blocks = search rules;
+}
 
-pub returns-in-Ok-clause-row : goal.returns-in-Ok-clause-row
-returns-in-Ok-clause-row g c = λ k told.
-    let whole = whole_content (g.D.Disk.block_count c.args.disk.now) (g.D.Disk.content c.args.disk.now) k told (g.met.D.Disk.well_formed c.args.disk.now) in
-    let h = c.self.inside.machine.hw in
-    let same = ap (λ (w : World). w.machine.hw) c.self.view_is in
-    let v = disk.as_it_reads k in
-    let blocks = g.D.Disk.block_count c.args.disk.now in
-    let block_is : c.block-block.result ≡ block_of_slot h 0 = c.block-block.ensures.block ∙ ap (λ (es : List (ℕ × ℕ × ℕ)). block_of es 0) c.extents.ensures.extents in
-    let P : Option disk.Content → Type 0 = λ o. IfSome o (λ held. c.read_header.new.into ≡ header_at c.block-block.result blocks (disk.as_it_reads held)) in
-    let read : c.read_header.new.into ≡ header_at c.block-block.result blocks v = subst P told c.in-Ok.ensures.header in
-    let header : c.read_header.new.into ≡ header_of h v = read ∙ ap (λ (b : ℕ). header_at b blocks v) block_is ∙ header_read h blocks k whole in
-    let header' : c.read_header.new.into ≡ header_of c.args.self.now.machine.hw v = subst (λ (g : Hardware). c.read_header.new.into ≡ header_of g v) same header in
-    let ends = ends_of_started c.args.from c.args.self.now c.start.new.self c.read_header.new.into c.start.result v (blocks_told blocks k whole ∙ c.requires.blocks) header' c.start.ensures.started in
-    (k, c.read_header.ensures.content ∙ told, boot_ends c.args.self.now c.start.new.self blocks k c.args.from c.start.result whole c.requires.synced ends (subst IsHardware same c.extents.ensures.hardware))
-
-pub returns-in-Ok-clause-image : goal.returns-in-Ok-clause-image
-returns-in-Ok-clause-image g c = λ k told.
-    let whole = whole_content (g.D.Disk.block_count c.args.disk.now) (g.D.Disk.content c.args.disk.now) k told (g.met.D.Disk.well_formed c.args.disk.now) in
-    let h = c.self.inside.machine.hw in
-    let same = ap (λ (w : World). w.machine.hw) c.self.view_is in
-    let v = disk.as_it_reads k in
-    let blocks = g.D.Disk.block_count c.args.disk.now in
-    let block_is : c.block-block.result ≡ block_of_slot h 0 = c.block-block.ensures.block ∙ ap (λ (es : List (ℕ × ℕ × ℕ)). block_of es 0) c.extents.ensures.extents in
-    let P : Option disk.Content → Type 0 = λ o. IfSome o (λ held. c.read_header.new.into ≡ header_at c.block-block.result blocks (disk.as_it_reads held)) in
-    let read : c.read_header.new.into ≡ header_at c.block-block.result blocks v = subst P told c.in-Ok.ensures.header in
-    let header : c.read_header.new.into ≡ header_of h v = read ∙ ap (λ (b : ℕ). header_at b blocks v) block_is ∙ header_read h blocks k whole in
-    let header' : c.read_header.new.into ≡ header_of c.args.self.now.machine.hw v = subst (λ (g : Hardware). c.read_header.new.into ≡ header_of g v) same header in
-    tells_mark c.args.from c.args.self.now c.start.new.self v c.start.result c.requires.synced
-    (ends_of_started c.args.from c.args.self.now c.start.new.self c.read_header.new.into c.start.result v (blocks_told blocks k whole ∙ c.requires.blocks) header' c.start.ensures.started)
+pub returns-in-Ok-clause-stepped : goal.returns-in-Ok-clause-stepped
+returns-in-Ok-clause-stepped g c = record {
+  row = λ k told.
+      let whole = whole_content (g.D.Disk.block_count c.args.disk.now) (g.D.Disk.content c.args.disk.now) k told (g.met.D.Disk.well_formed c.args.disk.now) in
+      let h = c.self.inside.machine.hw in
+      let same = ap (λ (w : World). w.machine.hw) c.self.view_is in
+      let v = disk.as_it_reads k in
+      let blocks = g.D.Disk.block_count c.args.disk.now in
+      let block_is : c.block-block.result ≡ block_of_slot h 0 = c.block-block.ensures.block ∙ ap (λ (es : List (ℕ × ℕ × ℕ)). block_of es 0) c.extents.ensures.extents in
+      let P : Option disk.Content → Type 0 = λ o. IfSome o (λ held. c.read_header.new.into ≡ header_at c.block-block.result blocks (disk.as_it_reads held)) in
+      let read : c.read_header.new.into ≡ header_at c.block-block.result blocks v = subst P told c.in-Ok.ensures.header in
+      let header : c.read_header.new.into ≡ header_of h v = read ∙ ap (λ (b : ℕ). header_at b blocks v) block_is ∙ header_read h blocks k whole in
+      let header' : c.read_header.new.into ≡ header_of c.args.self.now.machine.hw v = subst (λ (g : Hardware). c.read_header.new.into ≡ header_of g v) same header in
+      let ends = ends_of_started c.args.from c.args.self.now c.start.new.self c.read_header.new.into c.start.result v (blocks_told blocks k whole ∙ c.requires.blocks) header' c.start.ensures.started in
+      (k, c.read_header.ensures.content ∙ told, boot_ends c.args.self.now c.start.new.self blocks k c.args.from c.start.result whole c.requires.synced ends (subst IsHardware same c.extents.ensures.hardware));
+  restored = search rules;
+  image = λ k told.
+      let whole = whole_content (g.D.Disk.block_count c.args.disk.now) (g.D.Disk.content c.args.disk.now) k told (g.met.D.Disk.well_formed c.args.disk.now) in
+      let h = c.self.inside.machine.hw in
+      let same = ap (λ (w : World). w.machine.hw) c.self.view_is in
+      let v = disk.as_it_reads k in
+      let blocks = g.D.Disk.block_count c.args.disk.now in
+      let block_is : c.block-block.result ≡ block_of_slot h 0 = c.block-block.ensures.block ∙ ap (λ (es : List (ℕ × ℕ × ℕ)). block_of es 0) c.extents.ensures.extents in
+      let P : Option disk.Content → Type 0 = λ o. IfSome o (λ held. c.read_header.new.into ≡ header_at c.block-block.result blocks (disk.as_it_reads held)) in
+      let read : c.read_header.new.into ≡ header_at c.block-block.result blocks v = subst P told c.in-Ok.ensures.header in
+      let header : c.read_header.new.into ≡ header_of h v = read ∙ ap (λ (b : ℕ). header_at b blocks v) block_is ∙ header_read h blocks k whole in
+      let header' : c.read_header.new.into ≡ header_of c.args.self.now.machine.hw v = subst (λ (g : Hardware). c.read_header.new.into ≡ header_of g v) same header in
+      tells_mark c.args.from c.args.self.now c.start.new.self v c.start.result c.requires.synced
+      (ends_of_started c.args.from c.args.self.now c.start.new.self c.read_header.new.into c.start.result v (blocks_told blocks k whole ∙ c.requires.blocks) header' c.start.ensures.started);
+  works = search rules;
+  fewer = search rules;
+  hardware = search rules;
+  blocks = search rules;
+}

@@ -1,4 +1,4 @@
-use Rattle.std.proofs.Common.{◌<◌, sym, ap, ◌∙◌, subst}
+use Rattle.std.proofs.Common.{rules, ◌<◌, sym, ap, ◌∙◌, subst}
 use Rattle.plain_machine.specs.declared.event.Event.TheVariants as event
 use Rattle.plain_machine.specs.declared.event.Actor.TheVariants as actor
 use Rattle.definitions.specs.Zones.{top}
@@ -8,6 +8,7 @@ use Rattle.protocol_laws.specs.Slots.{IsMemoryOf}
 use Rattle.world_core.specs.Kept.{kept_world, HasTables, IsDown, IsUp}
 use Rattle.world_core.specs.Row.{SimulatesWhereTold, Restores, WakesWith}
 use Rattle.sleep_core.specs.Waking.{waking_steps_left}
+use Rattle.world_core.specs.StandsFor.{core_waking}
 use Rattle.world_core.specs.StepsLeft.{steps_left, steps_left_in}
 use Rattle.world_core.specs.declared.world.Core.{Core}
 use Rattle.world_core.specs.declared.world.Core.TheVariants.{Waking}
@@ -32,7 +33,7 @@ invariant_of-self g c =
     let left = c.leave.ensures.left in
     let same = left_machine r c.self.inside.machine c.leave.new.machine c.self.inside.frames c.leave.new.frames left in
     let zones = ap (λ (h : Hardware). h.zones) same.hw in
-    let after = c.core_after-self-inside.ensures in
+    let after = c.core_in-self-inside.ensures ∙ ap core_waking (c.phase-phase.ensures ∙ c.step-reply.ensures.stepped.phase) in
     let size = c.leave.ensures.size ∙ kept.size ∙ sym (ap (λ (h : Hardware). top h.zones) same.hw) in
     record {
       size = size;
@@ -48,38 +49,40 @@ invariant_of-self g c =
       header = λ now some. in_place c.self.inside.machine c.leave.new.machine same (kept.place (subst IsDown (sym core) tt));
       place = λ down. in_place c.self.inside.machine c.leave.new.machine same (kept.place (subst IsDown (sym core) tt));
       busy = λ e. woken_not_busy r (sym after ∙ e);
-      wakes = λ e. c.step-reply.ensures.finished ∙ wakes_on r (sym after ∙ e);
+      wakes = λ e. c.step-reply.ensures.stepped.phase ∙ wakes_on r (sym after ∙ e);
       loads = λ e. woken_loads_not r (sym after ∙ e);
     }
 
-pub returns-clause-row : goal.returns-clause-row
-returns-clause-row g c =
-    let old = kept_world c.self.inside in
-    let new = record old { machine = c.leave.new.machine; frames = c.leave.new.frames; waker = c.step-reply.new.self; core = c.core_after-self-inside.result } in
-    let memory : IsMemoryOf c.self.inside.machine.hw c.self.inside.frames =
-    record { pages = c.len.ensures.pages; table = slot_table_lies c.self.inside.machine.hw c.self.inside.frames c.zones-zones.ensures.hardware c.self.invariant.size } in
-    subst (λ (w : World). SimulatesWhereTold (event.Step actor.Core) w new c.step-reply.result (g.D.Disk.content c.args.disk.now) (g.D.Disk.content c.step-reply.new.disk)) c.self.view_is
-    (row_of_step old new c.step-reply.result (g.D.Disk.content c.args.disk.now) (g.D.Disk.content c.step-reply.new.disk) (ap (λ (w : World). w.core) c.self.view_is ∙ c.requires.wakes) c.core_after-self-inside.ensures c.leave.ensures.left memory c.step-reply.ensures.row)
-
-pub returns-clause-restored : goal.returns-clause-restored
-returns-clause-restored g c =
-    let old = kept_world c.self.inside in
-    let new = record old { machine = c.leave.new.machine; frames = c.leave.new.frames; waker = c.step-reply.new.self; core = c.core_after-self-inside.result } in
-    subst (λ (w : World). Restores (event.Step actor.Core) w new c.step-reply.result (g.D.Disk.content c.args.disk.now) (g.D.Disk.content c.step-reply.new.disk)) c.self.view_is
-    (restores_none old new c.step-reply.result (g.D.Disk.content c.args.disk.now) (g.D.Disk.content c.step-reply.new.disk) (ap (λ (w : World). w.core) c.self.view_is ∙ c.requires.wakes))
+pub returns-clause-stepped : goal.returns-clause-stepped
+returns-clause-stepped g c = record {
+  row =
+      let old = kept_world c.self.inside in
+      let new = record old { machine = c.leave.new.machine; frames = c.leave.new.frames; waker = c.step-reply.new.self; core = c.core_in-self-inside.result } in
+      let memory : IsMemoryOf c.self.inside.machine.hw c.self.inside.frames =
+      record { pages = c.len.ensures.pages; table = slot_table_lies c.self.inside.machine.hw c.self.inside.frames c.zones-zones.ensures.hardware c.self.invariant.size } in
+      subst (λ (w : World). SimulatesWhereTold (event.Step actor.Core) w new c.step-reply.result (g.D.Disk.content c.args.disk.now) (g.D.Disk.content c.step-reply.new.disk)) c.self.view_is
+      (row_of_step old new c.step-reply.result (g.D.Disk.content c.args.disk.now) (g.D.Disk.content c.step-reply.new.disk) (ap (λ (w : World). w.core) c.self.view_is ∙ c.requires.wakes) (c.core_in-self-inside.ensures ∙ ap core_waking (c.phase-phase.ensures ∙ c.step-reply.ensures.stepped.phase)) c.leave.ensures.left memory c.step-reply.ensures.stepped.row);
+  restored =
+      let old = kept_world c.self.inside in
+      let new = record old { machine = c.leave.new.machine; frames = c.leave.new.frames; waker = c.step-reply.new.self; core = c.core_in-self-inside.result } in
+      subst (λ (w : World). Restores (event.Step actor.Core) w new c.step-reply.result (g.D.Disk.content c.args.disk.now) (g.D.Disk.content c.step-reply.new.disk)) c.self.view_is
+      (restores_none old new c.step-reply.result (g.D.Disk.content c.args.disk.now) (g.D.Disk.content c.step-reply.new.disk) (ap (λ (w : World). w.core) c.self.view_is ∙ c.requires.wakes));
+  image = search rules;
+  works = search rules;
+  fewer =
+      let old = kept_world c.self.inside in
+      let new = record old { machine = c.leave.new.machine; frames = c.leave.new.frames; waker = c.step-reply.new.self; core = c.core_in-self-inside.result } in
+      let less = subst (λ (k : Core). steps_left_in k new.hib new.load new.waker < waking_steps_left old.waker) (sym (c.core_in-self-inside.ensures ∙ ap core_waking (c.phase-phase.ensures ∙ c.step-reply.ensures.stepped.phase))) (waking_fewer c.step-reply.result (waking_steps_left old.waker) new.hib new.load new.waker c.step-reply.ensures.stepped.fewer) in
+      subst (λ (w : World). steps_left new < steps_left w) c.self.view_is (fewer_from (steps_left new) old Waking (ap (λ (w : World). w.core) c.self.view_is ∙ c.requires.wakes) less);
+  hardware = search rules;
+  blocks = search rules;
+}
 
 pub returns-clause-memory : goal.returns-clause-memory
 returns-clause-memory g c =
     let old = kept_world c.self.inside in
-    let new = record old { machine = c.leave.new.machine; frames = c.leave.new.frames; waker = c.step-reply.new.self; core = c.core_after-self-inside.result } in
+    let new = record old { machine = c.leave.new.machine; frames = c.leave.new.frames; waker = c.step-reply.new.self; core = c.core_in-self-inside.result } in
     subst (λ (w : World). WakesWith w new c.step-reply.result) c.self.view_is (wakes_with old new c.step-reply.result c.leave.ensures.left)
 
 pub leave-requires-clause-table : goal.leave-requires-clause-table
 leave-requires-clause-table g c = slot_table_lies c.self.inside.machine.hw c.self.inside.frames c.zones-zones.ensures.hardware c.self.invariant.size
-
-pub returns-clause-fewer : goal.returns-clause-fewer
-returns-clause-fewer g c =
-    let old = kept_world c.self.inside in
-    let new = record old { machine = c.leave.new.machine; frames = c.leave.new.frames; waker = c.step-reply.new.self; core = c.core_after-self-inside.result } in
-    let less = subst (λ (k : Core). steps_left_in k new.hib new.load new.waker < waking_steps_left old.waker) (sym c.core_after-self-inside.ensures) (waking_fewer c.step-reply.result (waking_steps_left old.waker) new.hib new.load new.waker c.step-reply.ensures.fewer) in
-    subst (λ (w : World). steps_left new < steps_left w) c.self.view_is (fewer_from (steps_left new) old Waking (ap (λ (w : World). w.core) c.self.view_is ∙ c.requires.wakes) less)
