@@ -17,7 +17,7 @@ StreamsFail old new = HasRisen old.read_faults new.read_faults ⊎ SinksFail old
 abbrev pub DiskFails : View → View → Type 0
 DiskFails old new = HasRisen old.disk.faults new.disk.faults
 
--- A status that blames the streams or the disk has its cause there, and none blames the words, which were parsed before.
+-- A status that blames the streams or the disk has its cause there; none blames the words, which were parsed before.
 pub record HasCause (streams disk : Type 0) (status : Status) : Type 0 where
   pub stream : status ≡ Stream → streams
   pub device : status ≡ Device → disk

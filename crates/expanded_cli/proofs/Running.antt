@@ -12,11 +12,11 @@ use Rattle.image_cli.specs.Checks.{Checks, found_told}
 use Rattle.image_cli.specs.Printed.{IsSoFar}
 use Rattle.image_cli.proofs.Summing.{later, told_after}
 use Rattle.byte_streams.proofs.Taken.{TakesAll-none}
-use Rattle.image_units.specs.Index.{IsIndexed}
-use Rattle.image_units.specs.Opens.{IsPlain, IsWrong, OpensUnits}
-use Rattle.image_units.specs.declared.index.Index.{Index}
-use Rattle.image_units.specs.declared.reading.Opened.{Opened}
-use Rattle.image_units.specs.declared.reading.Opened.TheVariants as opened
+use Rattle.expanded_disk.specs.Index.{IsIndexed}
+use Rattle.expanded_disk.specs.Opens.{IsPlain, IsWrong, OpensUnits}
+use Rattle.expanded_disk.specs.declared.units.index.Index.{Index}
+use Rattle.expanded_disk.specs.declared.units.reading.Opened.{Opened}
+use Rattle.expanded_disk.specs.declared.units.reading.Opened.TheVariants as opened
 use Rattle.expanded_disk.specs.Keeps.{FailsWith, HasIndex}
 use Rattle.expanded_disk.specs.Laid.{blocks_for, expanded}
 use Rattle.expanded_disk.proofs.Loads.{for_some}

@@ -7,7 +7,7 @@ use Rattle.command_kit.specs.View.{SinkView}
 use Rattle.command_kit.specs.declared.status.Status.{Status}
 use Rattle.image_cli.specs.Checks.{Checks, findings_told}
 use Rattle.image_cli.specs.Json.{PrintsCheck, TellsCheck}
-use Rattle.image_units.specs.declared.index.Index.{Index}
+use Rattle.expanded_disk.specs.declared.units.index.Index.{Index}
 use Rattle.expanded_cli.specs.Runs.{RunsAny, RunsExpanded}
 
 -- the first fault of a compressed image, or else what is wrong with the plain one that it expands to

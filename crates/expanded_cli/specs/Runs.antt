@@ -2,9 +2,9 @@
 use Rattle.std.specs.Prelude.{ℕ, ◌≤◌, List, Option, IfSome}
 use Rattle.definitions.specs.Disk.{Content, as_it_reads}
 use Rattle.image_check.specs.declared.finding.Finding.{Finding}
-use Rattle.image_units.specs.Index.{IsIndexed}
-use Rattle.image_units.specs.Opens.{IsPlain, IsWrong}
-use Rattle.image_units.specs.declared.index.Index.{Index}
+use Rattle.expanded_disk.specs.Index.{IsIndexed}
+use Rattle.expanded_disk.specs.Opens.{IsPlain, IsWrong}
+use Rattle.expanded_disk.specs.declared.units.index.Index.{Index}
 use Rattle.expanded_disk.specs.Keeps.{FailsWith}
 use Rattle.expanded_disk.specs.Laid.{blocks_for, expanded}
 

@@ -10,7 +10,7 @@ use Rattle.image_check.specs.Told.{Told, Tells}
 use Rattle.image_check.specs.declared.finding.Finding.{Finding}
 use Rattle.image_cli.specs.Notes.{IsNoted}
 use Rattle.image_cli.specs.Streams.{refused_told}
-use Rattle.image_units.specs.declared.index.Index.{Index}
+use Rattle.expanded_disk.specs.declared.units.index.Index.{Index}
 use Rattle.expanded_cli.specs.Runs.{RunsAny, RunsExpanded}
 
 -- findings were noted, and nothing else happened

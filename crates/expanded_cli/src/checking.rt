@@ -9,11 +9,10 @@ ghost use Rattle.expanded_cli.specs.Checks.{ChecksAny, ChecksExpanded, PrintsChe
 use crate::expanding::Compressed;
 use byte_streams::Sink;
 use command_kit::{Status, no_memory};
-use expanded_disk::ExpandedDisk;
+use expanded_disk::{ExpandedDisk, Opened, Source, Walks, open};
 use image_check::Printer;
 use image_cli::{sum_up, sum_up_json};
 use image_json::Findings;
-use image_units::{Opened, Source, Walks, open};
 use overlay_disk::{Lent, Original};
 use page_core::NoMemory;
 use sector_disk::Disk;

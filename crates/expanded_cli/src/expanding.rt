@@ -1,5 +1,5 @@
+use expanded_disk::Index;
 use image_differ::Side;
-use image_units::Index;
 
 /// A compressed image that is whole.
 #[derive(Drop)]

@@ -1,4 +1,4 @@
-use image_units::Walks;
+use expanded_disk::Walks;
 use image_walk::{Visit, Walker};
 use overlay_disk::ReadOnly;
 use page_core::{Failed, Page};

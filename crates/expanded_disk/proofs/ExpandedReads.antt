@@ -5,10 +5,10 @@ use Rattle.std.proofs.lemmas.List.{drop-take, take-take}
 use Rattle.std.specs.Option.{ForSome}
 use Rattle.definitions.specs.Disk.{Content, DiskImage, as_it_reads, block}
 use Rattle.definitions.proofs.DiskLaws.{as_it_reads-settled}
-use Rattle.image_units.specs.Index.{IsIndexed, first_of, pages_of_chain}
-use Rattle.image_units.specs.Names.{chain_of}
-use Rattle.image_units.specs.Units.{bytes_of}
-use Rattle.image_units.specs.declared.index.Index.{Index}
+use Rattle.expanded_disk.specs.Index.{IsIndexed, first_of, pages_of_chain}
+use Rattle.expanded_disk.specs.Names.{chain_of}
+use Rattle.expanded_disk.specs.Units.{bytes_of}
+use Rattle.expanded_disk.specs.declared.units.index.Index.{Index}
 use Rattle.expanded_disk.specs.Laid.{blocks_for, expanded, expanded_page, laid_block, laid_map, plain_block, plain_header, plain_image}
 use Rattle.expanded_disk.specs.LaidLaws.{block-image, IsPage-plain}
 

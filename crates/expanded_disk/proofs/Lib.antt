@@ -2,3 +2,10 @@ pub mod ExpandedReads
 pub mod Loads
 pub mod MapWords
 pub mod Refusals
+pub mod ChainAnswers
+pub mod ChainSteps
+pub mod Marked
+pub mod Opening
+pub mod Passing
+pub mod UnitSteps
+pub mod UnitTelling

@@ -7,11 +7,11 @@ use Rattle.definitions.specs.Bytes.{word}
 use Rattle.definitions.specs.Disk.{Content, as_it_reads}
 use Rattle.lzo.specs.Expansion.{Outcome, expansion, told}
 use Rattle.lzo.specs.declared.fault.LzoFault.{LzoFault}
-use Rattle.image_units.specs.Index.{IsIndexOf, first_of}
-use Rattle.image_units.specs.Names.{chain_of}
-use Rattle.image_units.specs.Units.{bytes_from, bytes_of, is_length, length_at, outcome_of, pages_with, size_of, start_of, units_of}
-use Rattle.image_units.specs.declared.index.Index.{Index}
-use Rattle.image_units.proofs.UnitSteps.{outcome-packed, pages-packed, start_of-next}
+use Rattle.expanded_disk.specs.Index.{IsIndexOf, first_of}
+use Rattle.expanded_disk.specs.Names.{chain_of}
+use Rattle.expanded_disk.specs.Units.{bytes_from, bytes_of, is_length, length_at, outcome_of, pages_with, size_of, start_of, units_of}
+use Rattle.expanded_disk.specs.declared.units.index.Index.{Index}
+use Rattle.expanded_disk.proofs.UnitSteps.{outcome-packed, pages-packed, start_of-next}
 use Rattle.expanded_disk.specs.Keeps.{FailsBelow, HasIndex, IsJust}
 use Rattle.expanded_disk.specs.Laid.{expanded_page}
 use Rattle.expanded_disk.proofs.ExpandedReads.{page-info, page-of_unit}

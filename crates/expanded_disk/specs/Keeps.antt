@@ -4,10 +4,10 @@ use Rattle.std.specs.Option.{ForSome}
 use Rattle.definitions.specs.Disk.{Content, HasRisen, as_it_reads}
 use Rattle.overlay_disk.specs.DiskState.{RisesBelowLast}
 use Rattle.lzo.specs.Expansion.{Outcome}
-use Rattle.image_units.specs.Index.{IsIndexed}
-use Rattle.image_units.specs.Names.{chain_of}
-use Rattle.image_units.specs.Units.{bytes_of, size_of}
-use Rattle.image_units.specs.declared.index.Index.{Index}
+use Rattle.expanded_disk.specs.Index.{IsIndexed}
+use Rattle.expanded_disk.specs.Names.{chain_of}
+use Rattle.expanded_disk.specs.Units.{bytes_of, size_of}
+use Rattle.expanded_disk.specs.declared.units.index.Index.{Index}
 
 -- this index is that of the image with the given header block
 abbrev pub HasIndex : Option Content → (blocks header : ℕ) → Index → Type 0

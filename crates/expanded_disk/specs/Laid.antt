@@ -7,9 +7,9 @@ use Rattle.definitions.specs.Bytes.{with_number, with_word}
 use Rattle.definitions.specs.Disk.{Content, DiskImage, as_it_reads, block, sector_bytes, settled}
 use Rattle.definitions.specs.NumberPages.{page_of_words}
 use Rattle.definitions.specs.SwapHeader.{flags_of}
-use Rattle.image_units.specs.Index.{first_of, pages_of_chain}
-use Rattle.image_units.specs.Names.{chain_of}
-use Rattle.image_units.specs.Units.{bytes_of}
+use Rattle.expanded_disk.specs.Index.{first_of, pages_of_chain}
+use Rattle.expanded_disk.specs.Names.{chain_of}
+use Rattle.expanded_disk.specs.Units.{bytes_of}
 use Rattle.sector_disk.specs.Recorded.{after}
 use Rattle.sector_disk.specs.declared.recorded.Recorded.TheVariants.{Write}
 use Rattle.expanded_disk.specs.declared.refused.Refused.{Refused}

@@ -18,10 +18,10 @@ use Rattle.definitions.proofs.PageWords.{length-page_of_words, length-with_word}
 use Rattle.sector_disk.specs.Sectors.{AreSectors}
 use Rattle.sector_disk.specs.RecordedLaws.{IsContent-after, IsContent-settled}
 use Rattle.sector_disk.specs.declared.recorded.Recorded.TheVariants.{Write}
-use Rattle.image_units.specs.Index.{Agrees, IsIndexed, first_of, pages_of_chain}
-use Rattle.image_units.specs.Names.{chain_of}
-use Rattle.image_units.specs.Units.{bytes_of, size_of, units_of}
-use Rattle.image_units.specs.declared.index.Index.{Index}
+use Rattle.expanded_disk.specs.Index.{Agrees, IsIndexed, first_of, pages_of_chain}
+use Rattle.expanded_disk.specs.Names.{chain_of}
+use Rattle.expanded_disk.specs.Units.{bytes_of, size_of, units_of}
+use Rattle.expanded_disk.specs.declared.units.index.Index.{Index}
 use Rattle.expanded_disk.specs.Laid.{blocks_for, expanded, expanded_page, image_of_blocks, laid_block, laid_map}
 use Rattle.expanded_disk.specs.Laid.{map_word, marred, plain_block, plain_flags_of, plain_header, plain_image}
 use Rattle.expanded_disk.specs.declared.refused.Refused.{Refused}

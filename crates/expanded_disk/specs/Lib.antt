@@ -2,3 +2,10 @@ pub mod Keeps
 pub mod Laid
 pub mod LaidLaws
 pub mod Parts
+pub mod Units
+pub mod Names
+pub mod Chains
+pub mod Faults
+pub mod Index
+pub mod Opens
+pub mod Passes

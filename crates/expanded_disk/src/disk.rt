@@ -9,7 +9,7 @@ use crate::kept::Kept;
 use crate::laying::{Part, blocks_for, laid_map, part_of, plain_header};
 use crate::loading::read_page;
 use crate::refused::Refused;
-use image_units::{Index, Source, Unit, Walks};
+use crate::units::{Index, Source, Unit, Walks};
 use overlay_disk::Original;
 use page_core::{Failed, NoMemory, Page};
 use sector_disk::{Disk, Order, Orders};

@@ -1,4 +1,4 @@
-use image_units::Unit;
+use crate::units::Unit;
 
 /// A unit that is kept, and its number once it has one.
 #[derive(Drop)]

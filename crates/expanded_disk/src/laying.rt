@@ -4,8 +4,8 @@ ghost use Rattle.definitions.specs.Bytes.{IsPage};
 ghost use Rattle.expanded_disk.specs.Laid.{blocks_for, laid_map, map_word, plain_flags_of, plain_header};
 ghost use Rattle.expanded_disk.specs.Parts.{IsPart};
 
+use crate::units::SF_CRC32_MODE;
 use image_format::SF_NOCOMPRESS_MODE;
-use image_units::SF_CRC32_MODE;
 use page_core::Page;
 
 /// The number of entries of a map page (MAP_PAGE_ENTRIES), and the number of its words.

@@ -1,5 +1,5 @@
-//! A disk that expands the compressed image of the disk below it: its blocks read as the plain image of the same
-//! machine.
+//! Compressed images (save_image_lzo and load_image_lzo, kernel/power/swap.c): their units, one after another, over any
+//! disk, and a disk that expands them: its blocks read as the plain image of the same machine.
 #![tactic(auto)]
 
 mod disk;
@@ -7,5 +7,7 @@ mod kept;
 mod laying;
 mod loading;
 mod refused;
+mod units;
 
 pub use disk::ExpandedDisk;
+pub use units::{Index, Opened, Source, Walks, open, units_of};

@@ -1,16 +1,16 @@
 //! The pages of a compressed image, read again through its index.
 ghost use Rattle.std.specs.Prelude.{◌≡◌, ◌+◌, ◌*◌, ◌<◌, ◌≤◌, ◌^◌, ◌++◌, true, IfSome, OnOk, OnErr, Some, drop, take};
 ghost use Rattle.definitions.specs.Disk.{as_it_reads, block};
-ghost use Rattle.image_units.specs.Index.{IsIndexOf};
-ghost use Rattle.image_units.specs.Names.{chain_of};
-ghost use Rattle.image_units.specs.Units.{bytes_from, bytes_of, size_of, start_of, units_of};
+ghost use Rattle.expanded_disk.specs.Index.{IsIndexOf};
+ghost use Rattle.expanded_disk.specs.Names.{chain_of};
+ghost use Rattle.expanded_disk.specs.Units.{bytes_from, bytes_of, size_of, start_of, units_of};
 ghost use Rattle.lzo.specs.Expansion.{expansion};
 ghost use Rattle.expanded_disk.specs.Keeps.{FailsBelow, IsJust, IsKept};
 ghost use Rattle.expanded_disk.specs.Laid.{expanded_page};
 ghost use Rattle.std.specs.Option.{ForSome};
 
 use crate::kept::Kept;
-use image_units::{Index, Source, Unit, Walks, is_length, pages_with, size_of};
+use crate::units::{Index, Source, Unit, Walks, is_length, pages_with, size_of};
 use overlay_disk::Original;
 use page_core::{Failed, Page};
 

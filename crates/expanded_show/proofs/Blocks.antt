@@ -14,8 +14,8 @@ use Rattle.image_facts.specs.Runs.{IsUpTo, list_of}
 use Rattle.image_facts.specs.Told.{block_run}
 use Rattle.image_facts.specs.declared.fact.Fact.{Fact}
 use Rattle.image_facts.specs.declared.fact.Fact.TheVariants as fact
-use Rattle.image_units.specs.Units.{units_of}
-use Rattle.image_units.specs.declared.index.Index.{Index}
+use Rattle.expanded_disk.specs.Units.{units_of}
+use Rattle.expanded_disk.specs.declared.units.index.Index.{Index}
 use Rattle.expanded_disk.proofs.Loads.{IsIndexIn}
 use Rattle.expanded_show.specs.Blocks.{AreBlockFacts, FailsToRead, HasGathered, chain_blocks, chain_length, named_by}
 use Rattle.expanded_show.specs.declared.gathered.Gathered.{Gathered}

@@ -3,8 +3,8 @@ use Rattle.std.proofs.Common.{◌≡◌, ℕ, ◌≤◌, List, Option, IfSome, f
 use Rattle.definitions.specs.Disk.{Content, as_it_reads}
 use Rattle.image_facts.specs.HeaderFacts.{header_facts}
 use Rattle.image_facts.specs.declared.fact.Fact.{Fact}
-use Rattle.image_units.specs.Index.{IsIndexed}
-use Rattle.image_units.specs.declared.index.Index.{Index}
+use Rattle.expanded_disk.specs.Index.{IsIndexed}
+use Rattle.expanded_disk.specs.declared.units.index.Index.{Index}
 use Rattle.expanded_disk.specs.Keeps.{FailsWith, HasIndex}
 use Rattle.expanded_disk.specs.Laid.{blocks_for, expanded}
 use Rattle.expanded_disk.proofs.Loads.{for_some}

@@ -11,9 +11,9 @@ use Rattle.image_facts.specs.Runs.{IsUpTo}
 use Rattle.image_facts.specs.Told.{block_run}
 use Rattle.image_facts.specs.declared.fact.Fact.{Fact}
 use Rattle.image_facts.specs.declared.fact.Fact.TheVariants as fact
-use Rattle.image_units.specs.Names.{chain_of}
-use Rattle.image_units.specs.Units.{start_of, units_of}
-use Rattle.image_units.specs.declared.index.Index.{Index}
+use Rattle.expanded_disk.specs.Names.{chain_of}
+use Rattle.expanded_disk.specs.Units.{start_of, units_of}
+use Rattle.expanded_disk.specs.declared.units.index.Index.{Index}
 use Rattle.expanded_show.specs.declared.gathered.Gathered.{Gathered}
 
 -- the block of a map that reads as `page`, and the blocks that its first entries name

@@ -6,9 +6,9 @@ use Rattle.image_facts.specs.HeaderFacts.{header_facts}
 use Rattle.image_facts.specs.declared.fact.Fact.{Fact}
 use Rattle.image_show.specs.Shown.{Shows, ShowsFront}
 use Rattle.image_show.specs.declared.shown.Shown.{Shown}
-use Rattle.image_units.specs.Index.{IsIndexed}
-use Rattle.image_units.specs.Opens.{IsPlain, IsWrong}
-use Rattle.image_units.specs.declared.index.Index.{Index}
+use Rattle.expanded_disk.specs.Index.{IsIndexed}
+use Rattle.expanded_disk.specs.Opens.{IsPlain, IsWrong}
+use Rattle.expanded_disk.specs.declared.units.index.Index.{Index}
 use Rattle.expanded_disk.specs.Keeps.{FailsWith}
 use Rattle.expanded_disk.specs.Laid.{blocks_for, expanded}
 use Rattle.expanded_show.specs.Blocks.{AreAreaFacts}

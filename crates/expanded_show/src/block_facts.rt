@@ -4,13 +4,13 @@ ghost use Rattle.std.specs.Prelude.{◌++◌, slice_index};
 ghost use Rattle.std.specs.Option.{ForSome};
 ghost use Rattle.definitions.specs.Disk.{as_it_reads, block};
 ghost use Rattle.plain_machine.specs.Chain.{map_block};
-ghost use Rattle.image_units.specs.Index.{IsIndexOf};
-ghost use Rattle.image_units.specs.Units.{units_of};
+ghost use Rattle.expanded_disk.specs.Index.{IsIndexOf};
+ghost use Rattle.expanded_disk.specs.Units.{units_of};
 ghost use Rattle.expanded_show.specs.Blocks.{AreAreaFacts, AreBlockFacts, FailsToRead, chain_length, unit_facts};
 
 use crate::gathered::{Gathered, push};
+use expanded_disk::{Index, units_of};
 use image_facts::Fact;
-use image_units::{Index, units_of};
 use page_core::{Failed, NoMemory, Page};
 use sector_disk::Disk;
 use std::alloc::Global;

@@ -13,11 +13,10 @@ use crate::area_facts::AreaFacts;
 use crate::block_facts::area_facts;
 use crate::image_form::{ImageForm, LentForm};
 use byte_streams::MemSink;
-use expanded_disk::ExpandedDisk;
+use expanded_disk::{ExpandedDisk, Index, Opened, Source, Walks, open};
 use image_check::Printer;
 use image_facts::{Fact, header_facts};
 use image_show::{Fault, Form, Shown};
-use image_units::{Index, Opened, Source, Walks, open};
 use overlay_disk::{Lent, Original};
 use page_core::NoMemory;
 use sector_disk::Disk;
@@ -36,7 +35,7 @@ struct Compressed {
 
 /// Prints what is written in the area whose header lies in block `header`, as `image_show::show` does. A compressed
 /// image is read whole first, and is shown only if nothing is wrong with it: by the facts of the plain image that it
-/// expands to, with the blocks of the area in place of that image's. It also takes the memory that `image_units::open`
+/// expands to, with the blocks of the area in place of that image's. It also takes the memory that `expanded_disk::open`
 /// takes, and memory for each run of these blocks.
 pub fn show<D: Disk, F: Form>(
     alloc: Global,

@@ -10,9 +10,9 @@ use Rattle.image_cli.specs.Notes.{IsNoted}
 use Rattle.image_pages.specs.Chain.{IsChainPage}
 use Rattle.image_pages.specs.Opens.{IsNoImage}
 use Rattle.image_machine.specs.declared.heading.Layout.{Layout}
-use Rattle.image_units.specs.Index.{IsIndexed}
-use Rattle.image_units.specs.Opens.{IsNotCompressed}
-use Rattle.image_units.specs.declared.index.Index.{Index}
+use Rattle.expanded_disk.specs.Index.{IsIndexed}
+use Rattle.expanded_disk.specs.Opens.{IsNotCompressed}
+use Rattle.expanded_disk.specs.declared.units.index.Index.{Index}
 use Rattle.expanded_disk.specs.Laid.{blocks_for, expanded}
 use Rattle.expanded_cli.specs.Runs.{plain, unpacked}
 use Rattle.expanded_cli.proofs.Running.{Alike}

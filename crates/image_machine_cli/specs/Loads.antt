@@ -10,7 +10,7 @@ use Rattle.command_kit.specs.declared.status.Status.TheVariants as status
 use Rattle.image_check.specs.Told.{Told}
 use Rattle.image_cli.specs.Notes.{IsNoted}
 use Rattle.image_machine.specs.declared.heading.Layout.{Layout}
-use Rattle.image_units.specs.declared.index.Index.{Index}
+use Rattle.expanded_disk.specs.declared.units.index.Index.{Index}
 use Rattle.expanded_cli.specs.Runs.{RunsAny, RunsExpanded}
 use Rattle.expanded_cli.specs.Streams.{NotesFindings, NotesMemory}
 use Rattle.image_dump.specs.declared.made.Made.{Made}

@@ -1,5 +1,5 @@
 use Rattle.std.proofs.Common.{arith}
-use Rattle.image_units.proofs.UnitSteps.{filled-more}
+use Rattle.expanded_disk.proofs.UnitSteps.{filled-more}
 use Rattle.expanded_disk.proofs.loading.fill.Goals as goal
 
 pub loop-i-preserved : goal.loop-i-preserved

@@ -1,7 +1,7 @@
 use Rattle.std.proofs.Common.{◌≡◌, ◌+◌, ◌*◌, ◌≤◌, ◌++◌, take, IfSome}
 use Rattle.definitions.specs.Disk.{as_it_reads}
-use Rattle.image_units.specs.Names.{chain_of}
-use Rattle.image_units.specs.Units.{bytes_from}
+use Rattle.expanded_disk.specs.Names.{chain_of}
+use Rattle.expanded_disk.specs.Units.{bytes_from}
 use Rattle.expanded_disk.proofs.loading.fill.Given as goal
 
 abbrev pub invariant-loop-i : goal.invariant-loop-i

@@ -1,7 +1,7 @@
 use Rattle.std.proofs.Common.{sym, subst, inl, inr, ◌∙◌}
 use Rattle.std.proofs.lemmas.Result.{IfOk-weaker}
 use Rattle.image_show.specs.Shown.{Shows, ShowsFront}
-use Rattle.image_units.specs.Opens.{OpensUnits}
+use Rattle.expanded_disk.specs.Opens.{OpensUnits}
 use Rattle.expanded_show.specs.Shown.{ShowsAll, ShowsNoMore}
 use Rattle.expanded_show.proofs.Leading.{index_at, shows_lying, shows_whole}
 use Rattle.expanded_show.proofs.showing.show.Goals as goal

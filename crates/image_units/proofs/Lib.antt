@@ -1,7 +1,0 @@
-pub mod ChainAnswers
-pub mod ChainSteps
-pub mod Marked
-pub mod Opening
-pub mod Passing
-pub mod UnitSteps
-pub mod UnitTelling
