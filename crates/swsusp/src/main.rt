@@ -1,19 +1,16 @@
 //! `swsusp`: hibernation images in swap areas.
 #![tactic(auto)]
 
-use byte_streams::{StdSink, StdSource, hold, is_output, sync_output};
-use command_kit::{Status, print};
+use byte_streams::{StdSink, StdSource, hold, is_output};
 use file_disk::FileDisk;
 use page_core::NoMemory;
+use program_kit::{NOT_OPENED, ended, finished, no_memory, sink_fault, words_of};
 use sector_disk::{Disk, MemDisk};
 use std::fs::File;
+use std::io;
 use std::io::{BufReader, BufWriter, IsTerminal};
 use std::process::ExitCode;
-use std::{env, io};
 use swsusp_cli::{Choice, run, swap_name};
-
-/// The exit status if a file can't be opened; no run returns it.
-const NOT_OPENED: u8 = 7;
 
 /// The bytes of a dump or a stream that are read at once: one system call for sixteen records of a dump.
 const INPUT_PIECE: usize = 65_536;
@@ -25,13 +22,9 @@ const SCRIPT_PIECE: usize = 4096;
 const OUTPUT_PIECE: usize = 65_536;
 
 fn main(rt: HostRuntime) -> ExitCode {
-    let words = match env::args(&rt) {
+    let words = match words_of(&rt) {
         Ok(words) => words,
-        Err(error) if error.kind() == io::ErrorKind::OutOfMemory => return no_memory(&rt),
-        Err(_) => return ended(&rt, b"words\n", Status::Words.code()),
-    };
-    let Ok(words) = words.collect::<Vec<String>>(rt.alloc()) else {
-        return no_memory(&rt);
+        Err(code) => return code,
     };
     match swap_name(rt.alloc(), &words) {
         Err(NoMemory) => no_memory(&rt),
@@ -98,10 +91,7 @@ fn run_over<D: Disk>(rt: &HostRuntime, words: &[String], disk: &mut D) -> ExitCo
     let mut out = StdSink::new(writer);
     let mut note = StdSink::new(rt.stderr());
     let status = run(rt.alloc(), words, &mut input, &mut out, &mut note, disk);
-    if status == Status::Done && sync_output(rt).is_err() {
-        return sink_fault(rt);
-    }
-    ExitCode::from(status.code())
+    finished(rt, status)
 }
 
 /// Returns how many bytes of standard input are read at once.
@@ -121,20 +111,6 @@ fn output_piece(words: &[String]) -> usize {
     } else {
         0
     }
-}
-
-/// Ends outside a run, with a note.
-fn ended(rt: &HostRuntime, text: &[u8], code: u8) -> ExitCode {
-    let _ = print(&mut StdSink::new(rt.stderr()), text);
-    ExitCode::from(code)
-}
-
-fn no_memory(rt: &HostRuntime) -> ExitCode {
-    ended(rt, b"no memory\n", Status::Memory.code())
-}
-
-fn sink_fault(rt: &HostRuntime) -> ExitCode {
-    ended(rt, b"sink fault\n", Status::Stream.code())
 }
 
 fn not_opened(rt: &HostRuntime, error: &io::Error) -> ExitCode {

@@ -1,8 +1,8 @@
 //! `swsusp_image`: inspects the hibernation image of a swap area, copies it out and gives it up.
 #![tactic(auto)]
 
-use byte_streams::{Held, StdSink, hold, is_output, sync_output};
-use command_kit::{Status, print, tell};
+use byte_streams::{Held, StdSink};
+use command_kit::Status;
 use expanded_cli::{check, check_json, core, differ, page, stream};
 use file_disk::FileDisk;
 use image_check::Printer;
@@ -12,23 +12,19 @@ use image_machine::Layout;
 use image_machine_cli::{loader, machine};
 use image_words::{Area, Command, Form, Unparsed};
 use loader_words::Asked;
+use program_kit::{
+    NOT_OPENED, after_quiet, ended, finished, no_memory, open_to_read, open_to_write, show_help,
+    sink_fault, words_of,
+};
 use progress_disk::{Meter, ProgressDisk};
-use std::env;
 use std::fs::File;
 use std::io::{self, IsTerminal};
 use std::process::ExitCode;
 
-/// The exit status if a file can't be opened.
-const NOT_OPENED: u8 = 7;
-
 fn main(rt: HostRuntime) -> ExitCode {
-    let words = match env::args(&rt) {
+    let words = match words_of(&rt) {
         Ok(words) => words,
-        Err(error) if error.kind() == io::ErrorKind::OutOfMemory => return no_memory(&rt),
-        Err(_) => return ended(&rt, b"words\n", Status::Words.code()),
-    };
-    let Ok(words) = words.collect::<Vec<String>>(rt.alloc()) else {
-        return no_memory(&rt);
+        Err(code) => return code,
     };
     let (words, quiet) = after_quiet(&words);
     if let Some(asked) = loader_words::parse(words) {
@@ -60,18 +56,10 @@ fn main(rt: HostRuntime) -> ExitCode {
     }
 }
 
-/// Returns the words to parse, and whether `--quiet` comes first. If it does, it takes the place of the program's name.
-fn after_quiet(words: &[String]) -> (&[String], bool) {
-    match words.get(1) {
-        Some(word) if word.as_str() == "--quiet" => (&words[1..], true),
-        _ => (words, false),
-    }
-}
-
 /// Checks the image of an area.
 #[inline(never)]
 fn check_image(rt: &HostRuntime, area: Area<'_>, form: Form, quiet: bool) -> ExitCode {
-    let (_held, mut disk) = match open_to_read(rt, area.swap, quiet) {
+    let (_held, mut disk) = match open_watched(rt, area.swap, quiet) {
         Ok(opened) => opened,
         Err(error) => return not_opened(rt, area.swap, &error),
     };
@@ -90,7 +78,7 @@ fn check_image(rt: &HostRuntime, area: Area<'_>, form: Form, quiet: bool) -> Exi
 /// Prints what is written in an area.
 #[inline(never)]
 fn show_image(rt: &HostRuntime, area: Area<'_>, form: Form, quiet: bool) -> ExitCode {
-    let (_held, mut disk) = match open_to_read(rt, area.swap, quiet) {
+    let (_held, mut disk) = match open_watched(rt, area.swap, quiet) {
         Ok(opened) => opened,
         Err(error) => return not_opened(rt, area.swap, &error),
     };
@@ -106,7 +94,7 @@ fn show_image(rt: &HostRuntime, area: Area<'_>, form: Form, quiet: bool) -> Exit
 /// Writes the image of an area as a stream. Notes what is wrong with it.
 #[inline(never)]
 fn stream_image(rt: &HostRuntime, area: Area<'_>, quiet: bool) -> ExitCode {
-    let (_held, mut disk) = match open_to_read(rt, area.swap, quiet) {
+    let (_held, mut disk) = match open_watched(rt, area.swap, quiet) {
         Ok(opened) => opened,
         Err(error) => return not_opened(rt, area.swap, &error),
     };
@@ -119,7 +107,7 @@ fn stream_image(rt: &HostRuntime, area: Area<'_>, quiet: bool) -> ExitCode {
 /// Writes the saved page of a page frame. Notes what is wrong with the image up to that page.
 #[inline(never)]
 fn write_page(rt: &HostRuntime, area: Area<'_>, frame: u64, quiet: bool) -> ExitCode {
-    let (_held, mut disk) = match open_to_read(rt, area.swap, quiet) {
+    let (_held, mut disk) = match open_watched(rt, area.swap, quiet) {
         Ok(opened) => opened,
         Err(error) => return not_opened(rt, area.swap, &error),
     };
@@ -145,12 +133,12 @@ fn compare_images(
     first_only: bool,
     quiet: bool,
 ) -> ExitCode {
-    let (_held, disk) = match open_to_read(rt, area.swap, quiet) {
+    let (_held, disk) = match open_watched(rt, area.swap, quiet) {
         Ok(opened) => opened,
         Err(error) => return not_opened(rt, area.swap, &error),
     };
     // The first area alone shows how far the comparison has come.
-    let (_held, other_disk) = match open_to_read(rt, other, true) {
+    let (_held, other_disk) = match open_watched(rt, other, true) {
         Ok(opened) => opened,
         Err(error) => return not_opened(rt, other, &error),
     };
@@ -173,7 +161,7 @@ fn compare_images(
 /// Writes the dump of a loader for the image of an area, or of the machine that it saved. Notes why there is none.
 #[inline(never)]
 fn make_dump(rt: &HostRuntime, asked: &Asked<'_>, quiet: bool) -> ExitCode {
-    let (_held, mut disk) = match open_to_read(rt, asked.swap, quiet) {
+    let (_held, mut disk) = match open_watched(rt, asked.swap, quiet) {
         Ok(opened) => opened,
         Err(error) => return not_opened(rt, asked.swap, &error),
     };
@@ -201,7 +189,7 @@ fn make_dump(rt: &HostRuntime, asked: &Asked<'_>, quiet: bool) -> ExitCode {
 /// Writes the image of an area as a core file. Notes what is wrong with it.
 #[inline(never)]
 fn core_image(rt: &HostRuntime, area: Area<'_>, quiet: bool) -> ExitCode {
-    let (_held, mut disk) = match open_to_read(rt, area.swap, quiet) {
+    let (_held, mut disk) = match open_watched(rt, area.swap, quiet) {
         Ok(opened) => opened,
         Err(error) => return not_opened(rt, area.swap, &error),
     };
@@ -224,58 +212,15 @@ fn discard_image(rt: &HostRuntime, area: Area<'_>) -> ExitCode {
     finished(rt, status)
 }
 
-/// Opens a swap file read-only, after taking the places of closed standard streams.
-fn open_to_read<'a>(
+/// Opens a swap file read-only, as a disk that shows how much of it was read.
+fn open_watched<'a>(
     rt: &'a HostRuntime,
     swap: &str,
     quiet: bool,
 ) -> io::Result<(Held, ProgressDisk<'a, FileDisk<File>>)> {
-    let held = hold(rt)?;
-    if is_output(rt, swap)? {
-        return Err(io::ErrorKind::InvalidInput.into());
-    }
-    let disk = FileDisk::open_read_only(rt, swap)?;
+    let (held, disk) = open_to_read(rt, swap)?;
     let meter = Meter::new(rt, "swsusp_image", quiet);
     Ok((held, ProgressDisk { disk, meter }))
-}
-
-/// Opens a swap file for reading and writing, after taking the places of closed standard streams.
-fn open_to_write(rt: &HostRuntime, swap: &str) -> io::Result<(Held, FileDisk<File>)> {
-    let held = hold(rt)?;
-    if is_output(rt, swap)? {
-        return Err(io::ErrorKind::InvalidInput.into());
-    }
-    Ok((held, FileDisk::open(rt, swap)?))
-}
-
-/// Prints the help that was asked for.
-fn show_help(rt: &HostRuntime, text: &[u8]) -> ExitCode {
-    let mut out = StdSink::new(rt.stdout());
-    let mut note = StdSink::new(rt.stderr());
-    let status = tell(Status::Done, text, b"", &mut out, &mut note);
-    finished(rt, status)
-}
-
-/// Ends with a command's status. What it printed is synced before it ends well.
-fn finished(rt: &HostRuntime, status: Status) -> ExitCode {
-    if status == Status::Done && sync_output(rt).is_err() {
-        return sink_fault(rt);
-    }
-    ExitCode::from(status.code())
-}
-
-/// Ends outside a command, with a note.
-fn ended(rt: &HostRuntime, text: &[u8], code: u8) -> ExitCode {
-    let _ = print(&mut StdSink::new(rt.stderr()), text);
-    ExitCode::from(code)
-}
-
-fn no_memory(rt: &HostRuntime) -> ExitCode {
-    ended(rt, b"no memory\n", Status::Memory.code())
-}
-
-fn sink_fault(rt: &HostRuntime) -> ExitCode {
-    ended(rt, b"sink fault\n", Status::Stream.code())
 }
 
 fn not_opened(rt: &HostRuntime, path: &str, error: &io::Error) -> ExitCode {

@@ -1,24 +1,25 @@
 //! `swsusp_machine`: makes machines, as memory dumps, to try `swsusp` on.
 #![tactic(auto)]
 
-use byte_streams::{Held, StdSink, StdSource, hold, is_output, sync_output};
-use command_kit::{Status, print, tell};
+use byte_streams::{StdSink, StdSource, hold};
+use command_kit::Status;
 use core_machine_cli::from_core;
 use file_disk::{FileDisk, first_map_beyond};
 use machine_cli::{check, core, differ, draw, loader, make, show_facts};
 use machine_words::{Command, Unparsed};
 use page_core::NoMemory;
 use plain_machine::IdentCheck;
+use program_kit::{
+    NOT_OPENED, after_quiet, ended, finished, no_memory, open_to_read, show_help, sink_fault,
+    words_of,
+};
 use progress_disk::{Meter, ProgressDisk};
 use sector_disk::MemDisk;
 use std::fs::File;
+use std::io;
 use std::io::{BufReader, BufWriter, IsTerminal};
 use std::process::ExitCode;
 use std::rt::{Stdin, Stdout};
-use std::{env, io};
-
-/// The exit status if a file can't be opened.
-const NOT_OPENED: u8 = 7;
 
 /// The bytes of standard input that are read at once.
 const INPUT_PIECE: usize = 65_536;
@@ -30,13 +31,9 @@ const OUTPUT_PIECE: usize = 65_536;
 const MEMORY_BLOCKS: u32 = 16384;
 
 fn main(rt: HostRuntime) -> ExitCode {
-    let words = match env::args(&rt) {
+    let words = match words_of(&rt) {
         Ok(words) => words,
-        Err(error) if error.kind() == io::ErrorKind::OutOfMemory => return no_memory(&rt),
-        Err(_) => return ended(&rt, b"words\n", Status::Words.code()),
-    };
-    let Ok(words) = words.collect::<Vec<String>>(rt.alloc()) else {
-        return no_memory(&rt);
+        Err(code) => return code,
     };
     let (words, quiet) = after_quiet(&words);
     match Command::parse(rt.alloc(), words) {
@@ -58,14 +55,6 @@ fn main(rt: HostRuntime) -> ExitCode {
         Err(Unparsed::Help(text)) => show_help(&rt, text.as_bytes()),
         Err(Unparsed::Words(text)) => ended(&rt, text.as_bytes(), Status::Words.code()),
         Err(Unparsed::NoMemory) => no_memory(&rt),
-    }
-}
-
-/// Returns the words to parse, and whether `--quiet` comes first. If it does, it takes the place of the program's name.
-fn after_quiet(words: &[String]) -> (&[String], bool) {
-    match words.get(1) {
-        Some(word) if word.as_str() == "--quiet" => (&words[1..], true),
-        _ => (words, false),
     }
 }
 
@@ -223,15 +212,6 @@ fn check_file(rt: &HostRuntime, swap: &str, ident_check: IdentCheck, quiet: bool
     finished(rt, status)
 }
 
-/// Opens a swap file read-only, after taking the places of closed standard streams.
-fn open_to_read(rt: &HostRuntime, swap: &str) -> io::Result<(Held, FileDisk<File>)> {
-    let held = hold(rt)?;
-    if is_output(rt, swap)? {
-        return Err(io::ErrorKind::InvalidInput.into());
-    }
-    Ok((held, FileDisk::open_read_only(rt, swap)?))
-}
-
 /// Warns if a swap file seems to be given instead of the device that it lies on.
 fn warn_of_file(rt: &HostRuntime, disk: &mut FileDisk<File>) {
     if let Some(first) = first_map_beyond(disk) {
@@ -239,36 +219,6 @@ fn warn_of_file(rt: &HostRuntime, disk: &mut FileDisk<File>) {
             "warning: the first map is block {first}, beyond the file: of a swap file in a file system give the device"
         );
     }
-}
-
-/// Prints the help that was asked for.
-fn show_help(rt: &HostRuntime, text: &[u8]) -> ExitCode {
-    let mut out = StdSink::new(rt.stdout());
-    let mut note = StdSink::new(rt.stderr());
-    let status = tell(Status::Done, text, b"", &mut out, &mut note);
-    finished(rt, status)
-}
-
-/// Ends with a command's status. What it printed is synced before it ends well.
-fn finished(rt: &HostRuntime, status: Status) -> ExitCode {
-    if status == Status::Done && sync_output(rt).is_err() {
-        return sink_fault(rt);
-    }
-    ExitCode::from(status.code())
-}
-
-/// Ends outside a command, with a note.
-fn ended(rt: &HostRuntime, text: &[u8], code: u8) -> ExitCode {
-    let _ = print(&mut StdSink::new(rt.stderr()), text);
-    ExitCode::from(code)
-}
-
-fn no_memory(rt: &HostRuntime) -> ExitCode {
-    ended(rt, b"no memory\n", Status::Memory.code())
-}
-
-fn sink_fault(rt: &HostRuntime) -> ExitCode {
-    ended(rt, b"sink fault\n", Status::Stream.code())
 }
 
 fn not_opened(rt: &HostRuntime, path: &str, error: &io::Error) -> ExitCode {
