@@ -3,6 +3,7 @@ use Rattle.std.proofs.Common.{◌≡◌, ◌∙◌, ◌<◌, ◌≤◌, ◌^◌,
 use Rattle.std.specs.Cmp.Lexicographic.{pointwise}
 use Rattle.std.proofs.lemmas.Slice.Eq.{bytes_eq-Decides}
 use Rattle.swsusp_words.specs.Words.{is_path, plain_number}
+use Rattle.swsusp_words.proofs.Forms.{either}
 use Rattle.swsusp_words.proofs.Numbers.{number_parts, plain_decimal, printed, some_if}
 use Rattle.image_words.specs.Spelled.{IsArea, IsSpelled, IsSpelledFlagged, IsSpelledOver, IsSpelledWith, IsValid, Spells}
 use Rattle.image_words.specs.Words.{Asked, SwapArea, check, show, stream, page, core, differ, discard, after_offset, alone, command_by, command_of, differ_of, flag_first, offset_first, over_area, over_flagged, over_path, page_of}
@@ -219,11 +220,6 @@ spells_page words asked e =
 named : (command known : List ℕ) (words : Words) (asked : Asked) → pointwise nat_eq command known ≡ true → Spells asked (known ∷ words)
     → Spells asked (command ∷ words)
 named command known words asked t h = subst (λ (c : List ℕ). Spells asked (c ∷ words)) (sym (same command known t)) h
-
--- each test of a chain: if it holds this is the result, else that
-either : (b : Bool) (x y : Option Asked) (asked : Asked) → cond b x y ≡ Some asked → ((b ≡ true) × (x ≡ Some asked)) ⊎ (y ≡ Some asked)
-either true x y asked e = inl (refl, e)
-either false x y asked e = inr e
 
 spells_command : (command : List ℕ) (words : Words) (asked : Asked) → command_by command words ≡ Some asked → Spells asked (command ∷ words)
 spells_command command words asked e =

@@ -14,9 +14,10 @@ use Rattle.clap.proofs.OnLiterals.{clap_on_literals}
 use Rattle.clap.proofs.WalkLemmas.{both}
 use Rattle.image_words.specs.App.{image_app}
 use Rattle.image_words.specs.Help.{asks_help, commands, help_flags, is_among, version_flags}
-use Rattle.image_words.specs.Refused.{GivesHelp, Tells}
-use Rattle.image_words.specs.declared.unparsed.Unparsed.{Unparsed}
-use Rattle.image_words.specs.declared.unparsed.Unparsed.TheVariants as unparsed
+use Rattle.image_words.specs.Refused.{GivesHelp}
+use Rattle.swsusp_words.specs.Answer.{IsLine, Tells}
+use Rattle.swsusp_words.specs.declared.answer.Unparsed.{Unparsed}
+use Rattle.swsusp_words.specs.declared.answer.Unparsed.TheVariants as answer
 
 pub simple_and_free : is_simple_and_free image_app ≡ true
 unfolding clap_on_literals
@@ -82,13 +83,13 @@ may_ask : (kinds : Kinds) (k : ErrorKind) → IsAmong k kinds → (k ≡ kind.Di
 may_ask kinds k among (inl is) = inl (subst (λ (x : ErrorKind). IsAmong x kinds) is among)
 may_ask kinds k among (inr is) = inr (subst (λ (x : ErrorKind). IsAmong x kinds) is among)
 
-pub said_help : (words : List Text) (e : Error) (why : Unparsed) → HasKind (fault_of image_app words) e → (kind_of e ≡ kind.OutOfMemory → why ≡ unparsed.NoMemory)
+pub said_help : (words : List Text) (e : Error) (why : Unparsed) → HasKind (fault_of image_app words) e → (kind_of e ≡ kind.OutOfMemory → why ≡ answer.NoMemory)
     → Tells (kind_of e) why → GivesHelp words why
-said_help words e unparsed.NoMemory has no_memory tells = tt
-said_help words e (unparsed.Help text) (inl out) no_memory tells = let none = no_memory out in cc
-said_help words e (unparsed.Help text) (inr among) no_memory tells = may_ask (fault_of image_app words) (kind_of e) among tells
-said_help words e (unparsed.Words text) (inl out) no_memory tells = let none = no_memory out in cc
-said_help words e (unparsed.Words text) (inr among) no_memory tells = go (asks_help words) refl
+said_help words e answer.NoMemory has no_memory tells = tt
+said_help words e (answer.Help text) (inl out) no_memory tells = let none = no_memory out in cc
+said_help words e (answer.Help text) (inr among) no_memory tells = may_ask (fault_of image_app words) (kind_of e) among tells
+said_help words e (answer.Words text) (inl out) no_memory tells = let none = no_memory out in cc
+said_help words e (answer.Words text) (inr among) no_memory tells = go (asks_help words) refl
   where
     go : (b : Bool) → asks_help words ≡ b → asks_help words ≡ false
     go false is = is
@@ -104,3 +105,9 @@ taken_asks_no_help words none = go (asks_help words) refl
       | inl h ↦ cc
       | inr h ↦ cc
     ]
+
+-- the line for a list that clap takes is no help
+pub line_gives_help : (words : List Text) (line : Text) (why : Unparsed) → IsLine line why → asks_help words ≡ false → GivesHelp words why
+line_gives_help words line (answer.Words text) is none = none
+line_gives_help words line (answer.Help text) is none = absurd is
+line_gives_help words line answer.NoMemory is none = tt

@@ -1,10 +1,9 @@
 -- The program's commands as clap reads them.
 use Rattle.std.specs.Prelude.{ℕ, List, Some, true, codes, pos}
-use Rattle.clap.specs.Words.{App, Rule, new_app, new_rule, with_rule, with_subcommand}
-use Rattle.clap.specs.Simple.{on_top}
-use Rattle.clap.specs.declared.builder.action.ArgAction.TheVariants.{Append, SetTrue}
+use Rattle.clap.specs.Words.{App, Rule, Text, new_app, new_rule, with_rule, with_subcommand}
+use Rattle.clap.specs.declared.builder.action.ArgAction.TheVariants.{Append}
 use Rattle.clap.specs.declared.builder.value_parser.ValueParser.TheVariants as parser
-use Rattle.swsusp_words.specs.App.{offset_rule, swap_rule}
+use Rattle.swsusp_words.specs.App.{flag_rule, offset_rule, path_rule, program_app, swap_rule}
 
 -- a command with [--offset N] and SWAP
 abbrev pub area_app : List ℕ → App
@@ -12,7 +11,7 @@ area_app name = with_rule (with_rule (new_app name) offset_rule) swap_rule
 
 -- [--json]
 abbrev pub json_rule : Rule
-json_rule = record (new_rule (codes "json")) { long = Some (codes "json"); action = Some SetTrue }
+json_rule = flag_rule (codes "json")
 
 -- a command with an area and a form
 abbrev pub formed_app : List ℕ → App
@@ -31,33 +30,31 @@ page_app = with_rule (area_app (codes "page")) frame_rule
 
 -- [--first]
 abbrev pub first_rule : Rule
-first_rule = record (new_rule (codes "first")) { long = Some (codes "first"); action = Some SetTrue }
+first_rule = flag_rule (codes "first")
 
 -- SWAP, the second
 abbrev pub other_rule : Rule
-other_rule = record (new_rule (codes "other")) { value_names = 1; required = true }
+other_rule = path_rule (codes "other")
 
 abbrev pub differ_app : App
 differ_app = with_rule (with_rule (area_app (codes "differ")) first_rule) other_rule
 
--- --zone START COUNT and --extent START LENGTH BLOCK, which may be repeated
-abbrev pub zone_rule : Rule
-zone_rule = record (new_rule (codes "zone")) {
-  long = Some (codes "zone");
+-- as many numbers of 32 bits, which may be repeated
+abbrev pub numbers_rule : Text → ℕ → Rule
+numbers_rule name count = record (new_rule name) {
+  long = Some name;
   action = Some Append;
-  range = Some (record { start_inclusive = 2; end_inclusive = 2 });
-  value_names = 2;
+  range = Some (record { start_inclusive = count; end_inclusive = count });
+  value_names = count;
   parser = Some (parser.Signed (pos 0) (pos 4294967295));
 }
 
+-- --zone START COUNT and --extent START LENGTH BLOCK
+abbrev pub zone_rule : Rule
+zone_rule = numbers_rule (codes "zone") 2
+
 abbrev pub extent_rule : Rule
-extent_rule = record (new_rule (codes "extent")) {
-  long = Some (codes "extent");
-  action = Some Append;
-  range = Some (record { start_inclusive = 3; end_inclusive = 3 });
-  value_names = 3;
-  parser = Some (parser.Signed (pos 0) (pos 4294967295));
-}
+extent_rule = numbers_rule (codes "extent") 3
 
 abbrev pub dump_app : List ℕ → App
 dump_app name = with_rule (with_rule (area_app name) zone_rule) extent_rule
@@ -67,21 +64,10 @@ loader_app = dump_app (codes "loader")
 
 -- --tables F S
 abbrev pub tables_rule : Rule
-tables_rule = record (new_rule (codes "tables")) {
-  long = Some (codes "tables");
-  action = Some Append;
-  range = Some (record { start_inclusive = 2; end_inclusive = 2 });
-  value_names = 2;
-  parser = Some (parser.Signed (pos 0) (pos 4294967295));
-}
+tables_rule = numbers_rule (codes "tables") 2
 
 abbrev pub machine_app : App
 machine_app = with_rule (dump_app (codes "machine")) tables_rule
-
--- the program, which has a version and requires one of the commands
-abbrev pub program_app : App
-program_app =
-    on_top (λ top. record top { has_version = true; subcommand_required = true }) (new_app (codes "swsusp_image"))
 
 -- the program with the commands that report what an area holds
 abbrev pub with_tellers : App → App
@@ -104,4 +90,4 @@ abbrev pub with_makers : App → App
 with_makers app = with_subcommand (with_subcommand app loader_app.top) machine_app.top
 
 abbrev pub image_app : App
-image_app = with_makers (with_enders (with_writers (with_tellers program_app)))
+image_app = with_makers (with_enders (with_writers (with_tellers (program_app (codes "swsusp_image")))))

@@ -1,10 +1,10 @@
 use crate::command_line::command_line;
 use crate::spelled::plain;
-use crate::unparsed::{Unparsed, said};
 use std::alloc::Global;
+use swsusp_words::answer::{Unparsed, not_plain, said};
 
 /// A swap area.
-#[derive(Clone, Copy, Debug, PartialEq, Eq)]
+#[derive(Clone, Copy)]
 pub struct Area<'a> {
     /// The path of the swap file or block device.
     pub swap: &'a str,
@@ -13,7 +13,7 @@ pub struct Area<'a> {
 }
 
 /// The form in which something is printed.
-#[derive(Clone, Copy, Debug, PartialEq, Eq)]
+#[derive(Clone, Copy)]
 pub enum Form {
     /// In lines.
     Lines,
@@ -59,7 +59,9 @@ pub enum Command<'a> {
 impl<'a> Command<'a> {
     ghost use Rattle.std.specs.Prelude.{◌≡◌, IfErr, IfOk, Some, map, string_bytes};
     ghost use Rattle.image_words.specs.Asked.{asked_by};
-    ghost use Rattle.image_words.specs.Refused.{GivesHelp, IsRefusedBy, SaysWords};
+    ghost use Rattle.swsusp_words.specs.Answer.{IsRefusedBy, SaysWords};
+    ghost use Rattle.image_words.specs.App.{image_app};
+    ghost use Rattle.image_words.specs.Refused.{GivesHelp, not_plain};
     ghost use Rattle.image_words.specs.Words.{command_of};
 
     /// Reads the command of a plain list of words, whose first is the program's name. No other list parses, even if
@@ -68,8 +70,8 @@ impl<'a> Command<'a> {
     /// gets what clap says of it.
     pub fn parse(alloc: Global, words: &'a [String]) -> Result<Command<'a>, Unparsed>
         ensures asks { IfOk result (λ command. command_of (map string_bytes words.now) ≡ Some (asked_by command)) }
-        ensures refused { IfErr result (IsRefusedBy (map string_bytes words.now)) }
-        ensures words { IfErr result (SaysWords (map string_bytes words.now)) }
+        ensures refused { IfErr result (IsRefusedBy command_of (map string_bytes words.now)) }
+        ensures words { IfErr result (SaysWords image_app not_plain (map string_bytes words.now)) }
         ensures help { IfErr result (GivesHelp (map string_bytes words.now)) }
     {
         let matches = match command_line(alloc)?.try_get_matches_from(words) {
@@ -78,10 +80,10 @@ impl<'a> Command<'a> {
         };
         match plain(&matches, words) {
             Some(command) => Ok(command),
-            None => Err(Unparsed::Words(String::from_str(
+            None => Err(not_plain(
                 alloc,
                 "words: options go before SWAP, SWAP isn't empty nor begins with -, numbers have no sign or leading zero\n",
-            )?)),
+            )),
         }
     }
 }

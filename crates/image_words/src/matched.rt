@@ -1,7 +1,9 @@
 ghost use Rattle.std.specs.Prelude.{◌≡◌};
 ghost use Rattle.clap.specs.Words.{found_of, rows_of, subcommand_rows_of};
+ghost use Rattle.swsusp_words.specs.Matched.{Answers};
 ghost use Rattle.image_words.specs.Asked.{area_by, asked_by, formed_by, is_json};
-ghost use Rattle.image_words.specs.Matched.{Answers, area_in, asked_in, differ_in, formed_in, matched_by, page_in};
+ghost use Rattle.image_words.specs.Matched.{area_in, asked_in, check_in, core_in, differ_in, discard_in, formed_in};
+ghost use Rattle.image_words.specs.Matched.{matched_by, page_in, show_in, stream_in};
 
 use crate::command::{Area, Command, Form};
 use clap::ArgMatches;
@@ -12,21 +14,47 @@ pub(crate) fn matched<'a>(matches: &ArgMatches<'a>) -> Option<Command<'a>>
 {
     let (name, values) = matches.subcommand()?;
     match name {
-        "check" => {
-            let (area, form) = formed(values)?;
-            Some(Command::Check { area, form })
-        }
-        "show" => {
-            let (area, form) = formed(values)?;
-            Some(Command::Show { area, form })
-        }
-        "stream" => Some(Command::Stream(area_of(values)?)),
+        "check" => checking(values),
+        "show" => showing(values),
+        "stream" => streaming(values),
         "page" => page(values),
-        "core" => Some(Command::Core(area_of(values)?)),
+        "core" => coring(values),
         "differ" => comparison(values),
-        "discard" => Some(Command::Discard(area_of(values)?)),
+        "discard" => discarding(values),
         _ => None,
     }
+}
+
+fn checking<'a>(values: &ArgMatches<'a>) -> Option<Command<'a>>
+    ensures { Answers asked_by (check_in (rows_of (found_of values.now))) result }
+{
+    let (area, form) = formed(values)?;
+    Some(Command::Check { area, form })
+}
+
+fn showing<'a>(values: &ArgMatches<'a>) -> Option<Command<'a>>
+    ensures { Answers asked_by (show_in (rows_of (found_of values.now))) result }
+{
+    let (area, form) = formed(values)?;
+    Some(Command::Show { area, form })
+}
+
+fn streaming<'a>(values: &ArgMatches<'a>) -> Option<Command<'a>>
+    ensures { Answers asked_by (stream_in (rows_of (found_of values.now))) result }
+{
+    Some(Command::Stream(area_of(values)?))
+}
+
+fn coring<'a>(values: &ArgMatches<'a>) -> Option<Command<'a>>
+    ensures { Answers asked_by (core_in (rows_of (found_of values.now))) result }
+{
+    Some(Command::Core(area_of(values)?))
+}
+
+fn discarding<'a>(values: &ArgMatches<'a>) -> Option<Command<'a>>
+    ensures { Answers asked_by (discard_in (rows_of (found_of values.now))) result }
+{
+    Some(Command::Discard(area_of(values)?))
 }
 
 /// Returns an area, and the form of what is printed of it.

@@ -1,11 +1,12 @@
 -- A list asks for a command if and only if it spells the command.
-use Rattle.std.proofs.Common.{◌≡◌, ◌∙◌, ◌<◌, ◌&&◌, ◌⊎◌, inl, inr, ℕ, Bool, true, false, refl, sym, ap, subst, arith, Option, Some, None, List, [], ◌∷◌, codes, cond, nat_eq, nat_lt}
+use Rattle.std.proofs.Common.{◌≡◌, ◌∙◌, ◌<◌, ◌&&◌, inl, inr, ℕ, Bool, true, false, refl, sym, ap, subst, arith, Option, Some, None, List, [], ◌∷◌, codes, cond, nat_eq, nat_lt}
 use Rattle.std.proofs.lemmas.Bool.{ltb-true, lt-ltb}
 use Rattle.std.specs.Cmp.Lexicographic.{pointwise}
 use Rattle.std.proofs.lemmas.Slice.Eq.{bytes_eq-Decides}
 use Rattle.clap.proofs.WalkLemmas.{both}
 use Rattle.plain_machine.specs.declared.event.IdentCheck.TheVariants.{Compare, Skip}
 use Rattle.swsusp_words.specs.Words.{is_path, plain_number}
+use Rattle.swsusp_words.proofs.Forms.{either}
 use Rattle.swsusp_words.proofs.Numbers.{number_parts, plain_decimal, printed, some_if}
 use Rattle.machine_words.specs.Spelled.{IsSpelled, IsValid, Spells}
 use Rattle.machine_words.specs.Words.{Asked, make, draw, loader, core, from_core, show, differ, check, alone, check_of, command_by, command_of, differ_of, from_core_of, slotted}
@@ -67,11 +68,6 @@ spells_check (option ∷ swap ∷ more ∷ words) asked e = cc
 named : (command known : List ℕ) (words : Words) (asked : Asked) → pointwise nat_eq command known ≡ true → Spells asked (known ∷ words)
     → Spells asked (command ∷ words)
 named command known words asked t h = subst (λ (c : List ℕ). Spells asked (c ∷ words)) (sym ((bytes_eq-Decides command known).0 t)) h
-
--- each test of a chain: if it holds this is the result, else that
-either : (b : Bool) (x y : Option Asked) (asked : Asked) → cond b x y ≡ Some asked → ((b ≡ true) × (x ≡ Some asked)) ⊎ (y ≡ Some asked)
-either true x y asked e = inl (refl, e)
-either false x y asked e = inr e
 
 spells_command : (command : List ℕ) (words : Words) (asked : Asked) → command_by command words ≡ Some asked → Spells asked (command ∷ words)
 spells_command command words asked e =

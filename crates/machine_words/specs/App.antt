@@ -1,9 +1,8 @@
 -- The program's commands as clap reads them.
-use Rattle.std.specs.Prelude.{true, pos, Some, codes}
+use Rattle.std.specs.Prelude.{pos, Some, codes}
 use Rattle.clap.specs.Words.{App, Rule, new_app, new_rule, with_rule, with_subcommand}
-use Rattle.clap.specs.Simple.{on_top}
 use Rattle.clap.specs.declared.builder.value_parser.ValueParser.TheVariants as parser
-use Rattle.swsusp_words.specs.App.{any_kernel_rule}
+use Rattle.swsusp_words.specs.App.{any_kernel_rule, path_rule, program_app, swap_rule}
 
 abbrev pub make_app : App
 make_app = new_app (codes "make")
@@ -33,25 +32,16 @@ show_app = new_app (codes "show")
 
 -- DUMP, the first and the second
 abbrev pub first_rule : Rule
-first_rule = record (new_rule (codes "first")) { value_names = 1; required = true }
+first_rule = path_rule (codes "first")
 
 abbrev pub second_rule : Rule
-second_rule = record (new_rule (codes "second")) { value_names = 1; required = true }
+second_rule = path_rule (codes "second")
 
 abbrev pub differ_app : App
 differ_app = with_rule (with_rule (new_app (codes "differ")) first_rule) second_rule
 
--- SWAP
-abbrev pub swap_rule : Rule
-swap_rule = record (new_rule (codes "swap")) { value_names = 1; required = true }
-
 abbrev pub check_app : App
 check_app = with_rule (with_rule (new_app (codes "check")) any_kernel_rule) swap_rule
-
--- the program, which has a version and requires one of the commands
-abbrev pub program_app : App
-program_app =
-    on_top (λ top. record top { has_version = true; subcommand_required = true }) (new_app (codes "swsusp_machine"))
 
 -- the program with the commands that play a script
 abbrev pub with_players : App → App
@@ -67,4 +57,4 @@ abbrev pub with_tellers : App → App
 with_tellers app = with_subcommand (with_subcommand (with_subcommand app show_app.top) differ_app.top) check_app.top
 
 abbrev pub machine_app : App
-machine_app = with_tellers (with_writers (with_players program_app))
+machine_app = with_tellers (with_writers (with_players (program_app (codes "swsusp_machine"))))

@@ -1,10 +1,8 @@
 -- What a command's matches ask for.
-use Rattle.std.specs.Prelude.{◌≡◌, List, Option, Some, None, option_map, option_and_then, codes, if◌then◌else◌}
+use Rattle.std.specs.Prelude.{List, Option, Some, None, option_map, option_and_then, codes, if◌then◌else◌}
 use Rattle.std.specs.Str.{bytes_eq}
 use Rattle.clap.specs.Words.{Row, Text, first_of}
 use Rattle.swsusp_words.specs.Matched.{check_by, flag_at, number_at}
-use Rattle.machine_words.specs.Asked.{asked_by}
-use Rattle.machine_words.specs.declared.command.Command.{Command}
 use Rattle.machine_words.specs.Words.{Asked, make, draw, loader, core, from_core, show, differ, check}
 
 abbrev pub from_core_in : List Row → Option Asked
@@ -37,7 +35,3 @@ matched_by name rows =
 abbrev pub asked_in : Option (Text × List Row) → Option Asked
 asked_in None = None
 asked_in (Some (name, rows)) = matched_by name rows
-
--- the command is what is asked for, if anything is
-abbrev pub AnswersTo : Option Asked → Option Command → Type 0
-AnswersTo asked command = (x : Asked) → asked ≡ Some x → option_map asked_by command ≡ Some x

@@ -1,8 +1,8 @@
 use crate::command_line::command_line;
 use crate::spelled::plain;
-use crate::unparsed::{Unparsed, said};
 use plain_machine::IdentCheck;
 use std::alloc::Global;
+use swsusp_words::answer::{Unparsed, not_plain, said};
 
 /// What the program is asked to do.
 #[derive(Clone, Copy)]
@@ -40,14 +40,16 @@ pub enum Command<'a> {
 impl<'a> Command<'a> {
     ghost use Rattle.std.specs.Prelude.{◌≡◌, IfErr, IfOk, Some, map, string_bytes};
     ghost use Rattle.machine_words.specs.Asked.{asked_by};
-    ghost use Rattle.machine_words.specs.Refused.{IsRefusedBy, SaysWords};
+    ghost use Rattle.swsusp_words.specs.Answer.{IsRefusedBy, SaysWords};
+    ghost use Rattle.machine_words.specs.App.{machine_app};
+    ghost use Rattle.machine_words.specs.Refused.{not_plain};
     ghost use Rattle.machine_words.specs.Words.{command_of};
 
     /// Reads the command of a plain list of words, whose first is the program's name. No other list parses.
     pub fn parse(alloc: Global, words: &'a [String]) -> Result<Command<'a>, Unparsed>
         ensures asks { IfOk result (λ command. command_of (map string_bytes words.now) ≡ Some (asked_by command)) }
-        ensures refused { IfErr result (IsRefusedBy (map string_bytes words.now)) }
-        ensures words { IfErr result (SaysWords (map string_bytes words.now)) }
+        ensures refused { IfErr result (IsRefusedBy command_of (map string_bytes words.now)) }
+        ensures words { IfErr result (SaysWords machine_app not_plain (map string_bytes words.now)) }
     {
         let matches = match command_line(alloc)?.try_get_matches_from(words) {
             Ok(matches) => matches,
@@ -55,10 +57,10 @@ impl<'a> Command<'a> {
         };
         match plain(&matches, words) {
             Some(command) => Ok(command),
-            None => Err(Unparsed::Words(String::from_str(
+            None => Err(not_plain(
                 alloc,
                 "words: a path isn't empty nor begins with -, a number has no zero before it, and nothing but --any-kernel stands between a command and its paths\n",
-            )?)),
+            )),
         }
     }
 }

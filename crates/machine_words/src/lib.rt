@@ -6,7 +6,6 @@ mod command_line;
 mod details;
 mod matched;
 mod spelled;
-mod unparsed;
 
 pub use command::Command;
-pub use unparsed::Unparsed;
+pub use swsusp_words::answer::Unparsed;

@@ -143,7 +143,7 @@ named : (command known : List ℕ) (words : Words) (asked : Asked) → pointwise
 named command known words asked t h = subst (λ (c : List ℕ). Spells asked (c ∷ words)) (sym (same command known t)) h
 
 -- each test of a chain: if it holds this is the result, else that
-either : (b : Bool) (x y : Option Asked) (asked : Asked) → cond b x y ≡ Some asked → ((b ≡ true) × (x ≡ Some asked)) ⊎ (y ≡ Some asked)
+pub either : {A : Type 0} (b : Bool) (x y : Option A) (asked : A) → cond b x y ≡ Some asked → ((b ≡ true) × (x ≡ Some asked)) ⊎ (y ≡ Some asked)
 either true x y asked e = inl (refl, e)
 either false x y asked e = inr e
 

@@ -6,6 +6,7 @@ pub mod Inspects
 pub mod Numbers
 pub mod Others
 pub mod Parsing
+pub mod Refusals
 pub mod Resumes
 pub mod Taken
 pub mod Values

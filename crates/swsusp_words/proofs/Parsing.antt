@@ -1,25 +1,22 @@
 -- What a parse returns, over plain variables.
-use Rattle.std.proofs.Common.{◌≡◌, ◌≤◌, ◌↔◌, true, refl, sym, ap, subst, arith, Option, Some, None, List, [], ◌∷◌, ◌-◌, length, map, drop, take}
-use Rattle.std.proofs.lemmas.List.{take_all}
+use Rattle.std.proofs.Common.{◌≡◌, true, refl, Some, None, List, codes}
 use Rattle.clap.proofs.OnLiterals.{clap_on_literals}
-use Rattle.std.specs.Prelude.{Bool, IsTrue}
 use Rattle.clap.specs.Words.{Text, is_simple, subcommand_of, takes}
 use Rattle.swsusp_words.specs.App.{swsusp_app}
 use Rattle.swsusp_words.specs.Asked.{HasNumber, asked_by}
 use Rattle.swsusp_words.specs.Matched.{asked_in}
-use Rattle.swsusp_words.specs.Refused.{IsRefusedBy, SaysWords}
-use Rattle.swsusp_words.specs.Spelled.{Spells}
+use Rattle.swsusp_words.specs.Answer.{IsLine}
+use Rattle.swsusp_words.specs.Refused.{IsRefusedBy, SaysWords, without_help}
 use Rattle.swsusp_words.specs.Words.{Asked, command_of, drill}
 use Rattle.swsusp_words.specs.declared.command.Command.{Command}
 use Rattle.swsusp_words.specs.declared.command.Command.TheVariants as command
+use Rattle.swsusp_words.specs.declared.answer.Unparsed.{Unparsed as Answer}
+use Rattle.swsusp_words.specs.declared.answer.Unparsed.TheVariants as answer
 use Rattle.swsusp_words.specs.declared.unparsed.Unparsed.{Unparsed}
 use Rattle.swsusp_words.specs.declared.unparsed.Unparsed.TheVariants as unparsed
-use Rattle.swsusp_words.proofs.Forms.{asks, spells}
+use Rattle.swsusp_words.proofs.Forms.{spells}
+use Rattle.swsusp_words.proofs.Refusals.{nothing}
 use Rattle.swsusp_words.proofs.Taken.{taken_as_asked}
-
-nothing : (o : Option Asked) → ((x : Asked) → o ≡ Some x → ⊥) → o ≡ None
-nothing None h = refl
-nothing (Some x) h = absurd (h x refl)
 
 -- what clap says of words that it doesn't take
 pub said_refused : (words : List Text) (why : Unparsed) → (takes swsusp_app words ≡ true → why ≡ unparsed.NoMemory) → IsRefusedBy words why
@@ -30,6 +27,17 @@ said_refused words unparsed.NoMemory h = tt
 pub said_words : (words : List Text) (why : Unparsed) → (takes swsusp_app words ≡ true → why ≡ unparsed.NoMemory) → SaysWords words why
 said_words words (unparsed.Words text) h = λ t. let no_memory = h t in cc
 said_words words unparsed.NoMemory h = tt
+
+-- no answer to a list that asks for nothing is wrong
+pub none_refused : (words : List Text) (why : Unparsed) → command_of words ≡ None → IsRefusedBy words why
+none_refused words (unparsed.Words text) none = none
+none_refused words unparsed.NoMemory none = tt
+
+-- the line of a list that clap takes
+pub said_line : (words : List Text) (said : Answer) → IsLine (codes "words\n") said → SaysWords words (without_help said)
+said_line words (answer.Words text) is = λ t. is
+said_line words (answer.Help text) is = absurd is
+said_line words answer.NoMemory is = tt
 
 -- no plain words fail where the command of the matches is found
 pub unfound : (words : List Text) → ((x : Asked) → asked_in (subcommand_of swsusp_app words) ≡ Some x → command_of words ≡ Some x → ⊥) → command_of words ≡ None
@@ -43,21 +51,6 @@ numbered words (command.Resume check swap) e = tt
 numbered words command.Replay e = tt
 numbered words command.Export e = tt
 numbered words (command.Import swap) e = tt
-
-spells_rest : (name : Text) (rest : List Text) (asked : Asked) → command_of (name ∷ rest) ≡ Some asked → Spells asked rest
-spells_rest name rest asked e =
-    let p = spells (name ∷ rest) asked e in
-    let same : p.1 ≡ rest = ap (drop 1) (sym p.2) in
-    subst (λ (w : List Text). Spells asked w) same p.3
-
-pub by_rest : {A : Type 0} (f : A → Text) (words : List A) (asked : Asked) (r : Bool) → 1 ≤ length words → (IsTrue r ↔ Spells asked (map f (take (length words - 1) (drop 1 words))))
-    → IsTrue r ↔ (command_of (map f words) ≡ Some asked)
-by_rest {A} f [] asked r lt h = absurd (omega arith)
-by_rest {A} f (w ∷ words) asked r lt h =
-    let all : take (length (w ∷ words) - 1) words ≡ words = take_all (length (w ∷ words) - 1) words (omega arith) in (
-      λ t. let p = subst (λ (rest : List A). Spells asked (map f rest)) all (h.0 t) in asks (f w) (map f words) asked p.0 p.1,
-      λ e. h.1 (subst (λ (rest : List A). Spells asked (map f rest)) (sym all) (spells_rest (f w) (map f words) asked e)),
-    )
 
 pub simple : is_simple swsusp_app ≡ true
 unfolding clap_on_literals

@@ -1,3 +1,4 @@
+pub mod Answer
 pub mod App
 pub mod Asked
 pub mod Matched

@@ -9,8 +9,6 @@ use Rattle.page_core.specs.declared.format.Format.{Format}
 use Rattle.page_core.specs.declared.format.Format.TheVariants.{Plain, SkipZeros}
 use Rattle.plain_machine.specs.declared.event.IdentCheck.{IdentCheck}
 use Rattle.plain_machine.specs.declared.event.IdentCheck.TheVariants.{Compare, Skip}
-use Rattle.swsusp_words.specs.Asked.{asked_by}
-use Rattle.swsusp_words.specs.declared.command.Command.{Command}
 use Rattle.swsusp_words.specs.Words.{Asked, inspect, hibernate, resume, replay, drill, export, import}
 
 -- the number of `bits` bits that `FromStr` makes of a text
@@ -83,6 +81,6 @@ abbrev pub asked_in : Option (Text × List Row) → Option Asked
 asked_in None = None
 asked_in (Some (name, rows)) = matched_by name rows
 
--- the command is what is asked for, if anything is
-abbrev pub AnswersTo : Option Asked → Option Command → Type 0
-AnswersTo asked command = (x : Asked) → asked ≡ Some x → option_map asked_by command ≡ Some x
+-- the answer is what is asked for, if anything is
+abbrev pub Answers : {A B : Type 0} → (B → A) → Option A → Option B → Type 0
+Answers {A} asked_by asked answer = (x : A) → asked ≡ Some x → option_map asked_by answer ≡ Some x

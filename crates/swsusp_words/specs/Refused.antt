@@ -3,6 +3,8 @@ use Rattle.std.specs.Prelude.{◌≡◌, List, ℕ, None, true, codes, string_by
 use Rattle.clap.specs.Words.{takes}
 use Rattle.swsusp_words.specs.App.{swsusp_app}
 use Rattle.swsusp_words.specs.Words.{command_of}
+use Rattle.swsusp_words.specs.declared.answer.Unparsed.{Unparsed as Answer}
+use Rattle.swsusp_words.specs.declared.answer.Unparsed.TheVariants as answer
 use Rattle.swsusp_words.specs.declared.unparsed.Unparsed.{Unparsed}
 use Rattle.swsusp_words.specs.declared.unparsed.Unparsed.TheVariants as unparsed
 
@@ -15,3 +17,9 @@ IsRefusedBy words unparsed.NoMemory = ⊤
 abbrev pub SaysWords : List (List ℕ) → Unparsed → Type 0
 SaysWords words (unparsed.Words text) = takes swsusp_app words ≡ true → string_bytes text ≡ codes "words\n"
 SaysWords words unparsed.NoMemory = ⊤
+
+-- help and the version are texts like any other
+abbrev pub without_help : Answer → Unparsed
+without_help (answer.Help text) = unparsed.Words text
+without_help (answer.Words text) = unparsed.Words text
+without_help answer.NoMemory = unparsed.NoMemory

@@ -1,6 +1,7 @@
+use crate::answer::{not_plain, said};
 use crate::command_line::command_line;
 use crate::spelled::plain;
-use crate::unparsed::{Unparsed, said};
+use crate::unparsed::Unparsed;
 use page_core::Format;
 use plain_machine::IdentCheck;
 use std::alloc::Global;
@@ -60,11 +61,11 @@ impl<'a> Command<'a> {
     {
         let matches = match command_line(alloc)?.try_get_matches_from(words) {
             Ok(matches) => matches,
-            Err(error) => return Err(said(alloc, &error)),
+            Err(error) => return Err(Unparsed::from(said(alloc, &error))),
         };
         match plain(&matches, words) {
             Some(command) => Ok(command),
-            None => Err(Unparsed::Words(String::from_str(alloc, "words\n")?)),
+            None => Err(Unparsed::from(not_plain(alloc, "words\n"))),
         }
     }
 }

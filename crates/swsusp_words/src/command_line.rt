@@ -1,134 +1,118 @@
 ghost use Rattle.std.specs.Prelude.{◌≡◌, false, IfOk};
-ghost use Rattle.clap.specs.Words.{App, new_app, rule_of};
-ghost use Rattle.swsusp_words.specs.App.{IsApp, drill_app, export_app, hibernate_app, import_app, inspect_app};
-ghost use Rattle.swsusp_words.specs.App.{replay_app, resume_app, swap_rule, swsusp_app, with_areas, with_players, with_streams};
+ghost use Rattle.clap.specs.Words.{App, rule_of};
+ghost use Rattle.swsusp_words.specs.App.{IsApp, drill_app, export_app, hibernate_app, image_size_rule, import_app};
+ghost use Rattle.swsusp_words.specs.App.{inspect_app, number_rule, replay_app, resume_app, swsusp_app};
+ghost use Rattle.swsusp_words.specs.App.{with_areas, with_players, with_streams};
 
+use crate::building::{
+    any_kernel_argument, flag, named, offset_argument, program, swap_argument, with_argument,
+    with_command,
+};
 use crate::details;
-use clap::{Arg, ArgAction, Command, value_parser};
+use clap::{Arg, Command, value_parser};
 use std::alloc::{AllocError, Global};
 
 /// Makes the commands as clap knows them.
 pub(crate) fn command_line<'a>(alloc: Global) -> Result<Command<'a>, AllocError>
     ensures { IfOk result (IsApp swsusp_app) }
 {
-    let program = named(
+    let bare = program(
         alloc,
         "swsusp",
         "Writes, checks and resumes hibernation images in swap areas",
         details::PROGRAM,
-    )
-    .version("0.2.0")
-    .subcommand_required(true);
-    let areas = with_areas(alloc, program)?;
-    let playing = with_players(alloc, areas)?;
+    );
+    let areas = with_areas(alloc, Ok(bare));
+    let playing = with_players(alloc, areas);
     with_streams(alloc, playing)
 }
 
 /// Adds the commands over a swap area to the program.
-fn with_areas<'a>(alloc: Global, program: Command<'a>) -> Result<Command<'a>, AllocError>
-    ensures { (app : App) → IsApp app program.entry → IfOk result (IsApp (with_areas app)) }
+fn with_areas<'a>(
+    alloc: Global,
+    program: Result<Command<'a>, AllocError>,
+) -> Result<Command<'a>, AllocError>
+    ensures { (app : App) → IfOk program.entry (IsApp app) → IfOk result (IsApp (with_areas app)) }
 {
-    program
-        .subcommand(inspection(alloc)?)?
-        .subcommand(hibernation(alloc)?)?
-        .subcommand(resumption(alloc)?)
+    let program = with_command(program, inspection(alloc));
+    let program = with_command(program, hibernation(alloc));
+    with_command(program, resumption(alloc))
 }
 
 /// Adds the commands that play a run to the program.
-fn with_players<'a>(alloc: Global, program: Command<'a>) -> Result<Command<'a>, AllocError>
-    ensures { (app : App) → IsApp app program.entry → IfOk result (IsApp (with_players app)) }
+fn with_players<'a>(
+    alloc: Global,
+    program: Result<Command<'a>, AllocError>,
+) -> Result<Command<'a>, AllocError>
+    ensures { (app : App) → IfOk program.entry (IsApp app) → IfOk result (IsApp (with_players app)) }
 {
-    program
-        .subcommand(replaying(alloc))?
-        .subcommand(drill(alloc)?)
+    let program = with_command(program, Ok(replay(alloc)));
+    with_command(program, drill(alloc))
 }
 
 /// Adds the commands over a stream to the program.
-fn with_streams<'a>(alloc: Global, program: Command<'a>) -> Result<Command<'a>, AllocError>
-    ensures { (app : App) → IsApp app program.entry → IfOk result (IsApp (with_streams app)) }
+fn with_streams<'a>(
+    alloc: Global,
+    program: Result<Command<'a>, AllocError>,
+) -> Result<Command<'a>, AllocError>
+    ensures { (app : App) → IfOk program.entry (IsApp app) → IfOk result (IsApp (with_streams app)) }
 {
-    program
-        .subcommand(export(alloc))?
-        .subcommand(importation(alloc)?)
-}
-
-/// Makes a command with its name, what it does, and the rest of its help.
-fn named<'a>(alloc: Global, name: &'a str, about: &'a str, details: &'a str) -> Command<'a>
-    ensures { IsApp (new_app name.entry.now) result }
-{
-    Command::new(alloc, name).about(about).after_help(details)
-}
-
-fn swap_argument<'a>(alloc: Global) -> Arg<'a>
-    ensures rule { rule_of result ≡ swap_rule }
-    ensures own { result.global ≡ false }
-{
-    Arg::new(alloc, "swap")
-        .value_name("SWAP")
-        .required(true)
-        .help("A swap file or a block device")
+    let program = with_command(program, Ok(export(alloc)));
+    with_command(program, importation(alloc))
 }
 
 fn inspection<'a>(alloc: Global) -> Result<Command<'a>, AllocError>
     ensures { IfOk result (IsApp inspect_app) }
 {
-    let offset = Arg::new(alloc, "offset")
-        .long("offset")
-        .value_name("N")
-        .value_parser(value_parser!(u32))
-        .default_value("0")
-        .help("The block of the area's header");
-    named(
+    let command = named(
         alloc,
         "inspect",
         "Tells what the header block of a swap area says",
         details::INSPECT,
     )
-    .arg(offset)?
-    .arg(swap_argument(alloc))
+    .arg(offset_argument(alloc));
+    with_argument(command, swap_argument(alloc))
+}
+
+fn image_size_argument<'a>(alloc: Global) -> Arg<'a>
+    ensures rule { rule_of result ≡ image_size_rule }
+    ensures own { result.global ≡ false }
+{
+    Arg::new(alloc, "image-size")
+        .long("image-size")
+        .value_name("N")
+        .value_parser(value_parser!(u64))
+        .help("Drop cached page frames first, until N saveable ones are left")
 }
 
 fn hibernation<'a>(alloc: Global) -> Result<Command<'a>, AllocError>
     ensures { IfOk result (IsApp hibernate_app) }
 {
-    let skip_zeros = Arg::new(alloc, "skip-zeros")
-        .long("skip-zeros")
-        .action(ArgAction::SetTrue)
-        .help("Leave out pages that are all zero");
-    let image_size = Arg::new(alloc, "image-size")
-        .long("image-size")
-        .value_name("N")
-        .value_parser(value_parser!(u64))
-        .help("Drop cached page frames first, until N saveable ones are left");
-    named(
+    let command = named(
         alloc,
         "hibernate",
         "Reads a memory dump from standard input, and lets its machine hibernate",
         details::HIBERNATE,
     )
-    .arg(skip_zeros)?
-    .arg(image_size)?
-    .arg(swap_argument(alloc))
+    .arg(flag(alloc, "skip-zeros", "Leave out pages that are all zero"));
+    let command = with_argument(command, image_size_argument(alloc));
+    with_argument(command, swap_argument(alloc))
 }
 
 fn resumption<'a>(alloc: Global) -> Result<Command<'a>, AllocError>
     ensures { IfOk result (IsApp resume_app) }
 {
-    let any_kernel = Arg::new(alloc, "any-kernel")
-        .long("any-kernel")
-        .action(ArgAction::SetTrue)
-        .help("Take an image of another kernel too");
-    named(
+    let command = named(
         alloc,
         "resume",
         "Reads a loader's memory dump from standard input, and resumes the image of a swap area",
         details::RESUME,
     )
-    .arg(any_kernel)?
-    .arg(swap_argument(alloc))
+    .arg(any_kernel_argument(alloc));
+    with_argument(command, swap_argument(alloc))
 }
 
-fn replaying<'a>(alloc: Global) -> Command<'a>
+fn replay<'a>(alloc: Global) -> Command<'a>
     ensures { IsApp replay_app result }
 {
     named(
@@ -139,21 +123,27 @@ fn replaying<'a>(alloc: Global) -> Command<'a>
     )
 }
 
-fn drill<'a>(alloc: Global) -> Result<Command<'a>, AllocError>
-    ensures { IfOk result (IsApp drill_app) }
+fn number_argument<'a>(alloc: Global) -> Arg<'a>
+    ensures rule { rule_of result ≡ number_rule }
+    ensures own { result.global ≡ false }
 {
-    let number = Arg::new(alloc, "number")
+    Arg::new(alloc, "number")
         .value_name("NUMBER")
         .required(true)
         .value_parser(value_parser!(u32).range(1..=2000))
-        .help("How many page frames the run claims, 1 to 2000");
+        .help("How many page frames the run claims, 1 to 2000")
+}
+
+fn drill<'a>(alloc: Global) -> Result<Command<'a>, AllocError>
+    ensures { IfOk result (IsApp drill_app) }
+{
     named(
         alloc,
         "drill",
         "Plays the run that is made from a number, and sums its replies up in a line",
         details::DRILL,
     )
-    .arg(number)
+    .arg(number_argument(alloc))
 }
 
 fn export<'a>(alloc: Global) -> Command<'a>

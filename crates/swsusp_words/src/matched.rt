@@ -1,6 +1,7 @@
 ghost use Rattle.std.specs.Prelude.{◌≡◌};
 ghost use Rattle.clap.specs.Words.{found_of, rows_of, subcommand_rows_of};
-ghost use Rattle.swsusp_words.specs.Matched.{AnswersTo, asked_in, check_by, drill_in, format_by, hibernate_in};
+ghost use Rattle.swsusp_words.specs.Asked.{asked_by};
+ghost use Rattle.swsusp_words.specs.Matched.{Answers, asked_in, check_by, drill_in, format_by, hibernate_in};
 ghost use Rattle.swsusp_words.specs.Matched.{import_in, inspect_in, matched_by, resume_in};
 
 use crate::command::Command;
@@ -10,7 +11,7 @@ use plain_machine::IdentCheck;
 
 /// Returns the command that matches ask for.
 pub(crate) fn matched<'a>(matches: &ArgMatches<'a>) -> Option<Command<'a>>
-    ensures { AnswersTo (asked_in (subcommand_rows_of matches.now)) result }
+    ensures { Answers asked_by (asked_in (subcommand_rows_of matches.now)) result }
 {
     let (name, values) = matches.subcommand()?;
     match name {
@@ -26,7 +27,7 @@ pub(crate) fn matched<'a>(matches: &ArgMatches<'a>) -> Option<Command<'a>>
 }
 
 fn inspection<'a>(values: &ArgMatches<'a>) -> Option<Command<'a>>
-    ensures { AnswersTo (inspect_in (rows_of (found_of values.now))) result }
+    ensures { Answers asked_by (inspect_in (rows_of (found_of values.now))) result }
 {
     let swap = values.get_str("swap")?;
     let offset = values.get_one::<u32>("offset")?;
@@ -34,7 +35,7 @@ fn inspection<'a>(values: &ArgMatches<'a>) -> Option<Command<'a>>
 }
 
 fn hibernation<'a>(values: &ArgMatches<'a>) -> Option<Command<'a>>
-    ensures { AnswersTo (hibernate_in (rows_of (found_of values.now))) result }
+    ensures { Answers asked_by (hibernate_in (rows_of (found_of values.now))) result }
 {
     let swap = values.get_str("swap")?;
     let format = format_of(values.get_flag("skip-zeros"));
@@ -53,14 +54,15 @@ fn format_of(skip_zeros: bool) -> Format
 }
 
 fn resumption<'a>(values: &ArgMatches<'a>) -> Option<Command<'a>>
-    ensures { AnswersTo (resume_in (rows_of (found_of values.now))) result }
+    ensures { Answers asked_by (resume_in (rows_of (found_of values.now))) result }
 {
     let swap = values.get_str("swap")?;
     let check = check_of(values.get_flag("any-kernel"));
     Some(Command::Resume { check, swap })
 }
 
-fn check_of(any_kernel: bool) -> IdentCheck
+/// Returns whether an image must be of the machine's own kernel, by whether that of another is taken too.
+pub fn check_of(any_kernel: bool) -> IdentCheck
     ensures { result ≡ check_by any_kernel }
 {
     if any_kernel {
@@ -71,14 +73,14 @@ fn check_of(any_kernel: bool) -> IdentCheck
 }
 
 fn drill<'a>(values: &ArgMatches<'a>) -> Option<Command<'a>>
-    ensures { AnswersTo (drill_in (rows_of (found_of values.now))) result }
+    ensures { Answers asked_by (drill_in (rows_of (found_of values.now))) result }
 {
     let number = values.get_one::<u32>("number")?;
     Some(Command::Drill(number))
 }
 
 fn importation<'a>(values: &ArgMatches<'a>) -> Option<Command<'a>>
-    ensures { AnswersTo (import_in (rows_of (found_of values.now))) result }
+    ensures { Answers asked_by (import_in (rows_of (found_of values.now))) result }
 {
     let swap = values.get_str("swap")?;
     Some(Command::Import { swap })

@@ -1,11 +1,6 @@
-ghost use Rattle.std.specs.Prelude.{◌≡◌};
-ghost use Rattle.clap.specs.Values.{kind_of};
-ghost use Rattle.clap.specs.declared.error.kind.ErrorKind.TheVariants as kind;
-ghost use Rattle.swsusp_words.specs.declared.unparsed.Unparsed.TheVariants as unparsed;
-
-use clap::error::ErrorKind;
+use crate::answer;
 use page_core::NoMemory;
-use std::alloc::{AllocError, Global};
+use std::alloc::AllocError;
 use thiserror::Error;
 
 /// Why a list of words isn't a command.
@@ -41,15 +36,16 @@ impl From<AllocError> for Unparsed {
     }
 }
 
-/// Returns what clap says of words.
-pub(crate) fn said(alloc: Global, error: &clap::Error) -> Unparsed
-    ensures { kind_of error.now ≡ kind.OutOfMemory → result ≡ unparsed.NoMemory }
-{
-    if error.kind() == ErrorKind::OutOfMemory {
-        return Unparsed::NoMemory;
-    }
-    match format!(in alloc; "{error}") {
-        Ok(text) => Unparsed::Words(text),
-        Err(_) => Unparsed::NoMemory,
+impl From<answer::Unparsed> for Unparsed {
+    ghost use Rattle.std.specs.Prelude.{◌≡◌};
+    ghost use Rattle.swsusp_words.specs.Refused.{without_help};
+
+    ghost from_gives = { λ answer why. why ≡ without_help answer };
+
+    fn from(answer: answer::Unparsed) -> Unparsed {
+        match answer {
+            answer::Unparsed::Help(text) | answer::Unparsed::Words(text) => Unparsed::Words(text),
+            answer::Unparsed::NoMemory => Unparsed::NoMemory,
+        }
     }
 }

@@ -1,12 +1,10 @@
-use Rattle.std.proofs.Common.{rules, ◌≡◌, codes}
-use Rattle.std.proofs.lemmas.Result.{IfOk-weaker}
-use Rattle.clap.specs.Words.{new_app, rule_of, with_rule}
+use Rattle.std.proofs.Common.{codes}
+use Rattle.clap.specs.Words.{new_app, with_rule}
 use Rattle.swsusp_words.specs.App.{offset_rule, swap_rule}
-use Rattle.swsusp_words.proofs.Builders.{arg_added}
+use Rattle.swsusp_words.proofs.Builders.{if_arg_added}
 use Rattle.swsusp_words.proofs.command_line.inspection.Goals as goal
 
 pub returns : goal.returns
 returns c =
-    let offset_is : rule_of c.help-offset.result ≡ offset_rule = search rules in
-    let one = arg_added c.named.result c.in_ok-arg.field-0 c.help-offset.result (new_app (codes "inspect")) offset_rule c.named.ensures offset_is (search rules) c.in_ok-arg.ensures in
-    IfOk-weaker c.arg-2.result _ _ (λ r h. arg_added c.in_ok-arg.field-0 r c.swap_argument.result (with_rule (new_app (codes "inspect")) offset_rule) swap_rule one c.swap_argument.ensures.rule c.swap_argument.ensures.own h) c.arg-2.ensures
+    let one = if_arg_added c.arg-command.result c.named.result c.offset_argument.result (new_app (codes "inspect")) offset_rule c.named.ensures c.offset_argument.ensures.rule c.offset_argument.ensures.own c.arg-command.ensures in
+    c.with_argument.ensures (with_rule (new_app (codes "inspect")) offset_rule) swap_rule one c.swap_argument.ensures.rule c.swap_argument.ensures.own

@@ -1,7 +1,9 @@
+//! Why a list of words isn't a command, for a program that tells help from mistakes.
 ghost use Rattle.std.specs.Prelude.{◌≡◌};
 ghost use Rattle.clap.specs.Values.{kind_of};
 ghost use Rattle.clap.specs.declared.error.kind.ErrorKind.TheVariants as kind;
-ghost use Rattle.machine_words.specs.declared.unparsed.Unparsed.TheVariants as unparsed;
+ghost use Rattle.swsusp_words.specs.Answer.{IsLine, Tells};
+ghost use Rattle.swsusp_words.specs.declared.answer.Unparsed.TheVariants as answer;
 
 use clap::error::ErrorKind;
 use page_core::NoMemory;
@@ -24,9 +26,9 @@ pub enum Unparsed {
 
 impl From<NoMemory> for Unparsed {
     ghost use Rattle.std.specs.Prelude.{◌≡◌};
-    ghost use Rattle.machine_words.specs.declared.unparsed.Unparsed.TheVariants as unparsed;
+    ghost use Rattle.swsusp_words.specs.declared.answer.Unparsed.TheVariants as answer;
 
-    ghost from_gives = { λ _ why. why ≡ unparsed.NoMemory };
+    ghost from_gives = { λ _ why. why ≡ answer.NoMemory };
 
     fn from(_: NoMemory) -> Unparsed {
         Unparsed::NoMemory
@@ -35,9 +37,9 @@ impl From<NoMemory> for Unparsed {
 
 impl From<AllocError> for Unparsed {
     ghost use Rattle.std.specs.Prelude.{◌≡◌};
-    ghost use Rattle.machine_words.specs.declared.unparsed.Unparsed.TheVariants as unparsed;
+    ghost use Rattle.swsusp_words.specs.declared.answer.Unparsed.TheVariants as answer;
 
-    ghost from_gives = { λ _ why. why ≡ unparsed.NoMemory };
+    ghost from_gives = { λ _ why. why ≡ answer.NoMemory };
 
     fn from(_: AllocError) -> Unparsed {
         Unparsed::NoMemory
@@ -45,8 +47,9 @@ impl From<AllocError> for Unparsed {
 }
 
 /// Returns what clap says of words.
-pub(crate) fn said(alloc: Global, error: &clap::Error) -> Unparsed
-    ensures { kind_of error.now ≡ kind.OutOfMemory → result ≡ unparsed.NoMemory }
+pub fn said(alloc: Global, error: &clap::Error) -> Unparsed
+    ensures no_memory { kind_of error.now ≡ kind.OutOfMemory → result ≡ answer.NoMemory }
+    ensures tells { Tells (kind_of error.now) result }
 {
     if error.kind() == ErrorKind::OutOfMemory {
         return Unparsed::NoMemory;
@@ -58,5 +61,15 @@ pub(crate) fn said(alloc: Global, error: &clap::Error) -> Unparsed
         Unparsed::Words(text)
     } else {
         Unparsed::Help(text)
+    }
+}
+
+/// Returns the answer to a list that clap takes but that isn't plain: this line.
+pub fn not_plain(alloc: Global, line: &str) -> Unparsed
+    ensures { IsLine line.now result }
+{
+    match String::from_str(alloc, line) {
+        Ok(text) => Unparsed::Words(text),
+        Err(_) => Unparsed::NoMemory,
     }
 }
