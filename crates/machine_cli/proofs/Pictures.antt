@@ -1,5 +1,5 @@
 -- From events whose columns were drawn to what is told of a picture.
-use Rattle.std.proofs.Common.{◌≡◌, ◌⊎◌, inl, inr, ◌≤◌, ℕ, List, length, take, sym, subst, arith}
+use Rattle.std.proofs.Common.{◌≡◌, ◌⊎◌, inl, inr, ◌≤◌, List, length, take, sym, subst, arith}
 use Rattle.std.proofs.lemmas.List.{take_all}
 use Rattle.definitions.specs.Disk.{HasRisen}
 use Rattle.definitions.specs.Streams.{TakesAll, TakesFront}
@@ -13,20 +13,11 @@ use Rattle.command_kit.specs.Told.{AreFronts, IsTold, IsTried, sink_note}
 use Rattle.command_kit.specs.View.{SinkView, View}
 use Rattle.command_kit.specs.declared.status.Status.{Status}
 use Rattle.swsusp_cli.specs.Replay.{LieBelow}
-use Rattle.swsusp_cli.specs.Outcome.{IsScript, Tells}
+use Rattle.swsusp_cli.specs.Outcome.{IsScript}
 use Rattle.swsusp_cli.specs.Replay.{AreReplies}
-use Rattle.swsusp_cli.specs.SettingUp.{IsNotSetUp, unready_told}
-use Rattle.swsusp_cli.specs.declared.setting_up.Unready.{Unready}
-use Rattle.swsusp_cli.specs.declared.setting_up.Unready.TheVariants.{Small, Unformatted as NotFormatted}
 use Rattle.swsusp_cli.proofs.Prints.{fails_early, printed_then, whole_still}
-use Rattle.swsusp_cli.proofs.Replays.{not_formatted, small_disk}
 use Rattle.world_runs.proofs.Counted.{risen_earlier}
-use Rattle.machine_cli.specs.Drawn.{Draws, IsDrawn, cut_off, drawn, too_small, unformatted}
-
--- A script whose machine isn't set up, as it is told.
-pub not_drawn : (x x' : View) (status : Status) (script : ScriptValue) (why : Unready) → IsScript x x' script → IsNotSetUp script x.disk x'.disk why → Tells (unready_told why) status x x' → IsDrawn x x' status
-not_drawn x x' status script (Small blocks need) is few told = too_small script is (small_disk x x' status script blocks need few told)
-not_drawn x x' status script (NotFormatted call) is fails told = unformatted script call is (not_formatted x x' status script call fails told)
+use Rattle.machine_cli.specs.Drawn.{Draws, IsDrawn, cut_off, drawn}
 
 -- All events were played and the picture is whole, and the ends of the texts are printed, or a sink fails there.
 pub drawn_whole : (x x' : View) (status : Status) (script : ScriptValue) (mid : SinkView) (replies : List Reply) → IsScript x x' script → LieBelow script.hardware x.disk.blocks → AreReplies x.disk x'.disk script script.events replies →

@@ -12,7 +12,7 @@ use Rattle.plain_machine.specs.declared.event.IdentCheck.{IdentCheck}
 use Rattle.command_kit.specs.Told.{RunResult, memory_told}
 use Rattle.swsusp_cli.specs.Dumps.{IsDump, IsNoDump, stopped_told, succeeded_told}
 use Rattle.swsusp_cli.specs.Loads.{is_resumed}
-use Rattle.swsusp_cli.specs.Outcome.{IsOutOfMemory, FailsAtSource, Tells}
+use Rattle.swsusp_cli.specs.Outcome.{FailsAtSource, Tells}
 use Rattle.command_kit.specs.View.{DiskView, View}
 use Rattle.command_kit.specs.declared.status.Status.{Status}
 

@@ -1,5 +1,5 @@
 -- How `differ` may end: it reads two dumps, and reports their first difference.
-use Rattle.std.specs.Prelude.{◌≡◌, ◌≢◌, ℕ, List, [], ◌++◌, codes, decimal, Option, Some, None, Ok, IsNone, IfSome}
+use Rattle.std.specs.Prelude.{◌≡◌, ℕ, List, [], ◌++◌, codes, decimal, Option, Some, None, Ok, IsNone, IfSome}
 use Rattle.std.specs.Prelude.{◌↔◌}
 use Rattle.definitions.specs.Streams.{IsUsedUp}
 use Rattle.dump_tools.specs.Differences.{AreSame, IsFirst}

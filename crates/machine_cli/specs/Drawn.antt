@@ -5,12 +5,10 @@ use Rattle.definitions.specs.Disk.{HasRisen}
 use Rattle.definitions.specs.Streams.{TakesFront}
 use Rattle.plain_machine.specs.declared.reply.Reply.{Reply}
 use Rattle.script.specs.Grammar.{ScriptValue}
-use Rattle.script.specs.declared.fault.ScriptFault.{ScriptFault}
 use Rattle.run_picture.specs.Picture.{picture, pictured}
 use Rattle.swsusp_cli.specs.Replay.{LieBelow}
-use Rattle.swsusp_cli.specs.Outcome.{IsNoScript, IsOutOfMemory, IsScript, IsTooSmall, IsUnformatted, FailsAtSource}
+use Rattle.swsusp_cli.specs.Outcome.{IsScript, IsUnplayed}
 use Rattle.swsusp_cli.specs.Replay.{AreReplies}
-use Rattle.swsusp_cli.specs.declared.formatting.Unformatted.{Unformatted}
 use Rattle.command_kit.specs.Told.{IsPrinted, IsTried, sink_note}
 use Rattle.command_kit.specs.View.{View}
 use Rattle.command_kit.specs.declared.status.Status.{Status}
@@ -47,11 +45,6 @@ pub record IsDrawnInPart (x x' : View) (status : Status) (script : ScriptValue) 
 
 -- One of these endings, by the outside before and after.
 pub data IsDrawn (x x' : View) (status : Status) : Type 0 where
-  no_script : (fault : ScriptFault) → IsNoScript x x' status fault → IsDrawn x x' status
-  out_of_memory : IsOutOfMemory x x' status → IsDrawn x x' status
-  unread : FailsAtSource x x' status → IsDrawn x x' status
-  too_small : (script : ScriptValue) → IsScript x x' script → IsTooSmall x x' status script → IsDrawn x x' status
-  unformatted : (script : ScriptValue) (call : Unformatted) → IsScript x x' script
-      → IsUnformatted x x' status script call → IsDrawn x x' status
+  unplayed : IsUnplayed x x' status → IsDrawn x x' status
   drawn : (script : ScriptValue) → IsWhole x x' status script → IsDrawn x x' status
   cut_off : (script : ScriptValue) → IsDrawnInPart x x' status script → IsDrawn x x' status

@@ -1,5 +1,4 @@
 -- How `loader` may end: it reads a dump, and writes the dump of its machine freshly booted.
-use Rattle.std.specs.Prelude.{◌≡◌}
 use Rattle.dump_file.specs.Dump.{DumpValue}
 use Rattle.dump_file.specs.declared.dump.DumpFault.{DumpFault}
 use Rattle.dump_tools.specs.KeptSlots.{kept_slot}

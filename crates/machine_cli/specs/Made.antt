@@ -1,19 +1,16 @@
 -- How `make` may end: it plays a script, and writes the memory of the machine that runs at its end as a dump.
-use Rattle.std.specs.Prelude.{◌≡◌, ℕ, List, [], codes, Some}
+use Rattle.std.specs.Prelude.{◌≡◌, List, [], codes, Some}
 use Rattle.definitions.specs.Disk as disk
 use Rattle.plain_machine.specs.Machine.{Hardware, Memory, IsSameMemory}
 use Rattle.plain_machine.specs.State.{State, Running, on}
 use Rattle.plain_machine.specs.declared.reply.Reply.{Reply}
 use Rattle.script.specs.Grammar.{ScriptValue}
-use Rattle.script.specs.declared.fault.ScriptFault.{ScriptFault}
 use Rattle.command_kit.specs.Told.{RunResult, line}
 use Rattle.swsusp_cli.specs.Replay.{LieBelow}
 use Rattle.swsusp_cli.specs.Loads.{written_told}
-use Rattle.swsusp_cli.specs.Outcome.{IsNoScript, IsOutOfMemory, IsScript, IsTooSmall, IsUnformatted, FailsAtSource}
-use Rattle.swsusp_cli.specs.Outcome.{Tells}
-use Rattle.swsusp_cli.specs.Replay.{AreReplies, IsRun}
+use Rattle.swsusp_cli.specs.Outcome.{IsScript, IsUnplayed, Tells}
+use Rattle.swsusp_cli.specs.Replay.{AreReplies}
 use Rattle.command_kit.specs.View.{View}
-use Rattle.swsusp_cli.specs.declared.formatting.Unformatted.{Unformatted}
 use Rattle.command_kit.specs.declared.status.Status.{Status}
 use Rattle.command_kit.specs.declared.status.Status.TheVariants.{Refused}
 
@@ -40,12 +37,7 @@ pub record HasPlayedTo (x x' : View) (script : ScriptValue) (Ends : State → Ty
 
 -- One of these endings, by the outside before and after.
 pub data IsMade (x x' : View) (status : Status) : Type 0 where
-  no_script : (fault : ScriptFault) → IsNoScript x x' status fault → IsMade x x' status
-  out_of_memory : IsOutOfMemory x x' status → IsMade x x' status
-  unread : FailsAtSource x x' status → IsMade x x' status
-  too_small : (script : ScriptValue) → IsScript x x' script → IsTooSmall x x' status script → IsMade x x' status
-  unformatted : (script : ScriptValue) (call : Unformatted) → IsScript x x' script →
-      IsUnformatted x x' status script call → IsMade x x' status
+  unplayed : IsUnplayed x x' status → IsMade x x' status
   idle : (script : ScriptValue) → HasPlayedTo x x' script RunsNot → Tells idle_told status x x' → IsMade x x' status
   written : (script : ScriptValue) (m : Memory) → HasPlayedTo x x' script (RunsWith script.hardware m) →
       Tells (written_told script.hardware m) status x x' → IsMade x x' status

@@ -1,5 +1,5 @@
 -- How `show` may end: it reads a dump, and prints its facts.
-use Rattle.std.specs.Prelude.{◌≡◌, []}
+use Rattle.std.specs.Prelude.{[]}
 use Rattle.dump_file.specs.Dump.{DumpValue}
 use Rattle.dump_file.specs.declared.dump.DumpFault.{DumpFault}
 use Rattle.dump_tools.specs.Texts.{facts_text}

@@ -14,14 +14,14 @@ ghost use Rattle.swsusp_cli.specs.Outcome.{HandsOutAtMost};
 ghost use Rattle.machine_cli.specs.Drawn.{IsDrawn};
 
 use byte_streams::{Line, Sink, Source};
-use command_kit::{Status, no_memory, tell};
-use page_core::{Failed, NoMemory};
+use command_kit::{Status, tell};
+use page_core::Failed;
 use plain_machine::{Event, Reply};
 use run_picture::{Lanes, put_column, put_foot, put_head};
 use script::line_of;
 use sector_disk::Disk;
 use std::alloc::Global;
-use swsusp_cli::{cut_off, parse_input, set_up};
+use swsusp_cli::{begin, cut_off};
 use world_core::World;
 
 /// Plays a script over a disk, and writes a picture of what happens, event by event.
@@ -41,18 +41,10 @@ pub fn draw<I: Source, O: Sink, N: Sink, D: Disk>(
         (view I.Source O.Sink N.Sink D.Disk input.new out.new note.new disk.new) result }
     ensures read { HandsOutAtMost 1048577 (I.remaining input.old) (I.remaining input.new) }
 {
-    let script = match parse_input(alloc, input) {
-        Ok(script) => script,
-        Err(stop) => return stop.tell(out, note),
+    let (script, mut world) = match begin(alloc, input, out, note, disk) {
+        Ok(begun) => begun,
+        Err(status) => return status,
     };
-    let mut world = match World::create(alloc, *script.hardware()) {
-        Ok(world) => world,
-        Err(NoMemory) => return no_memory().tell(out, note),
-    };
-    match set_up(&script, disk) {
-        Ok(()) => {}
-        Err(why) => return why.answer().tell(out, note),
-    }
     match draw_run(&mut world, disk, out, script.events()) {
         Ok(()) => tell(Status::Done, b"", b"", out, note),
         Err(Failed) => cut_off(note),

@@ -1,6 +1,6 @@
 -- Memory that was refused before the disk was called.
-use Rattle.std.proofs.Common.{◌≡◌, inl, inr, ℕ, refl, sym, subst, Option, Some, None, List}
-use Rattle.command_kit.specs.Told.{RunResult, memory_told, unparsed}
+use Rattle.std.proofs.Common.{◌≡◌, ℕ, refl, Option}
+use Rattle.command_kit.specs.Told.{memory_told}
 use Rattle.swsusp_cli.specs.Drills as drills
 use Rattle.swsusp_cli.specs.Drills.{IsDrilled}
 use Rattle.swsusp_cli.specs.Dumps as dumps
@@ -14,17 +14,16 @@ use Rattle.swsusp_cli.specs.Loads as loads
 use Rattle.swsusp_cli.specs.Loads.{Resumes}
 use Rattle.swsusp_cli.specs.Outcome as outcome
 use Rattle.swsusp_cli.specs.Outcome.{IsReplayed, Tells}
-use Rattle.command_kit.specs.View.{DiskView, View}
+use Rattle.command_kit.specs.View.{View}
 use Rattle.command_kit.specs.declared.status.Status.{Status}
 use Rattle.page_core.specs.declared.format.Format.{Format}
 use Rattle.plain_machine.specs.declared.event.IdentCheck.{IdentCheck}
 use Rattle.stream_in.specs.declared.stop.InStop.TheVariants as stop
-use Rattle.swsusp_words.specs.Words.{Asked, inspect, hibernate, resume, replay, drill, export, import}
 
 -- memory was refused before the disk was called, which each command may end with
 module _ (x x' : View) (status : Status) (told : Tells memory_told status x x') (untouched : x'.disk ≡ x.disk) where
   pub memory_replays : IsReplayed x x' status
-  memory_replays = outcome.out_of_memory (record { told = told; untouched = untouched })
+  memory_replays = outcome.unplayed (outcome.out_of_memory (record { told = told; untouched = untouched }))
 
   pub memory_drills : (number : ℕ) → IsDrilled number x x' status
   memory_drills number = drills.out_of_memory (record { told = told; untouched = untouched })

@@ -1,8 +1,7 @@
 -- What a crash inside an import may leave, from its parts.
-use Rattle.std.proofs.Common.{◌≡◌, ◌⊎◌, inl, inr, ◌≤◌, ℕ, List, [], ◌++◌, length, Option, Some, None, refl, sym, ◌∙◌, subst, arith, append_assoc}
+use Rattle.std.proofs.Common.{◌⊎◌, inl, inr, ◌≤◌, ℕ, List, [], ◌++◌, Option, Some, None, refl, sym, ◌∙◌, subst, arith}
 use Rattle.std.specs.Option.{IfSome, IsSome}
 use Rattle.definitions.specs.Disk.{Changes, Content, DiskImage, as_it_reads, block}
-use Rattle.definitions.specs.Streams.{HandsOut, IsUsedUp}
 use Rattle.definitions.specs.SwapHeader.{IsMarked}
 use Rattle.image_format.specs.declared.signature.area.Area.{Area}
 use Rattle.stream_in.specs.Holding.{HasComeIn, IsReadyFor, StaysReady}
@@ -11,7 +10,7 @@ use Rattle.stream_in.specs.Session.{TakesInto}
 use Rattle.stream_in.specs.Holding.{AreOfMap}
 use Rattle.stream_in.specs.declared.session.StreamIn.{StreamIn}
 use Rattle.command_kit.specs.View.{DiskView}
-use Rattle.swsusp_cli.specs.Imports.{HasWhole, ImportsInside}
+use Rattle.swsusp_cli.specs.Imports.{ImportsInside}
 use Rattle.swsusp_cli.specs.Feeding.{HasFed, KeepsHeaders, TakesToEnd}
 
 -- Header blocks, piece by piece.

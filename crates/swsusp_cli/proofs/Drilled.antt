@@ -1,10 +1,10 @@
 -- From a machine that is made from a number to what is printed about it.
-use Rattle.std.proofs.Common.{zero, suc, ◌≡◌, ◌≢◌, inl, inr, ◌≤◌, ◌<◌, ◌+◌, ℕ, All, List, [], ◌∷◌, length, get_or, Option, Some, subst, ap, arith}
+use Rattle.std.proofs.Common.{zero, suc, ◌≡◌, ◌≢◌, inl, inr, ◌≤◌, ◌<◌, ℕ, All, List, [], ◌∷◌, length, get_or, Option, Some, subst, ap, arith}
 use Rattle.std.proofs.lemmas.Bool.{cases_lt}
 use Rattle.definitions.specs.Disk as disk
 use Rattle.plain_machine.specs.declared.reply.Reply.{Reply}
 use Rattle.protocol_laws.specs.Rows.{TellsNewFault}
-use Rattle.script.specs.Drill.{drill_events, drill_script}
+use Rattle.script.specs.Drill.{drill_script}
 use Rattle.command_kit.specs.Told.{memory_told}
 use Rattle.swsusp_cli.specs.Drills.{IsDrilled, out_of_memory, too_small, unformatted, summed, summary_told}
 use Rattle.swsusp_cli.specs.Outcome.{Tells, small_told, unformatted_told}

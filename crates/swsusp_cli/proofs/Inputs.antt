@@ -10,7 +10,7 @@ use Rattle.script.specs.declared.fault.ParseStop.{ParseStop}
 use Rattle.script.specs.declared.fault.ParseStop.TheVariants as of_parse
 use Rattle.script.specs.declared.fault.ScriptFault.{ScriptFault}
 use Rattle.swsusp_cli.specs.Dumps.{IsNoDump}
-use Rattle.swsusp_cli.specs.Outcome.{IsNoScript, IsOutOfMemory, FailsAtSource}
+use Rattle.swsusp_cli.specs.Outcome.{IsOutOfMemory, IsUnplayed, FailsAtSource, no_script, out_of_memory, unread}
 use Rattle.swsusp_cli.specs.Stops.{IsStopTold, LacksDump, LacksScript, dump_stop, parse_stop}
 use Rattle.command_kit.specs.View.{View}
 use Rattle.command_kit.specs.declared.status.Status.{Status}
@@ -31,15 +31,14 @@ dump_lacking left after of_dump.NoMemory says read = tt
 -- a command that wants a dump
 pub without_dump : (P : Type 0) (x x' : View) (status : Status) (stop : Stop) → LacksDump x.left x'.left stop → IsStopTold stop status x.out x'.out x.note x'.note → x'.disk ≡ x.disk → (stop ≡ Source → HasRisen x.read_faults x'.read_faults) →
     ((fault : DumpFault) → IsNoDump x x' status fault → P) → (IsOutOfMemory x x' status → P) → (FailsAtSource x x' status → P) → P
-without_dump P x x' status Source lacks told untouched cause no_dump out_of_memory unread = unread (record { status_is = told.0; risen = cause refl; out = told.1; note = told.2; untouched = untouched })
-without_dump P x x' status Memory lacks told untouched cause no_dump out_of_memory unread = out_of_memory (record { told = told; untouched = untouched })
-without_dump P x x' status (Script fault) lacks told untouched cause no_dump out_of_memory unread = absurd lacks
-without_dump P x x' status (Dump fault) lacks told untouched cause no_dump out_of_memory unread = no_dump fault (record { says = λ bytes left. (lacks bytes left).0; read = λ bytes left. (lacks bytes left).1; told = told; untouched = untouched })
+without_dump P x x' status Source lacks told untouched cause no_dump refused failed = failed (record { status_is = told.0; risen = cause refl; out = told.1; note = told.2; untouched = untouched })
+without_dump P x x' status Memory lacks told untouched cause no_dump refused failed = refused (record { told = told; untouched = untouched })
+without_dump P x x' status (Script fault) lacks told untouched cause no_dump refused failed = absurd lacks
+without_dump P x x' status (Dump fault) lacks told untouched cause no_dump refused failed = no_dump fault (record { says = λ bytes left. (lacks bytes left).0; read = λ bytes left. (lacks bytes left).1; told = told; untouched = untouched })
 
 -- a command that wants a script
-pub without_script : (P : Type 0) (x x' : View) (status : Status) (stop : Stop) → LacksScript x.left stop → IsStopTold stop status x.out x'.out x.note x'.note → x'.disk ≡ x.disk → (stop ≡ Source → HasRisen x.read_faults x'.read_faults) →
-    ((fault : ScriptFault) → IsNoScript x x' status fault → P) → (IsOutOfMemory x x' status → P) → (FailsAtSource x x' status → P) → P
-without_script P x x' status Source lacks told untouched cause no_script out_of_memory unread = unread (record { status_is = told.0; risen = cause refl; out = told.1; note = told.2; untouched = untouched })
-without_script P x x' status Memory lacks told untouched cause no_script out_of_memory unread = out_of_memory (record { told = told; untouched = untouched })
-without_script P x x' status (Script fault) lacks told untouched cause no_script out_of_memory unread = no_script fault (record { says = lacks; told = told; untouched = untouched })
-without_script P x x' status (Dump fault) lacks told untouched cause no_script out_of_memory unread = absurd lacks
+pub without_script : (x x' : View) (status : Status) (stop : Stop) → LacksScript x.left stop → IsStopTold stop status x.out x'.out x.note x'.note → x'.disk ≡ x.disk → (stop ≡ Source → HasRisen x.read_faults x'.read_faults) → IsUnplayed x x' status
+without_script x x' status Source lacks told untouched cause = unread (record { status_is = told.0; risen = cause refl; out = told.1; note = told.2; untouched = untouched })
+without_script x x' status Memory lacks told untouched cause = out_of_memory (record { told = told; untouched = untouched })
+without_script x x' status (Script fault) lacks told untouched cause = no_script fault (record { says = lacks; told = told; untouched = untouched })
+without_script x x' status (Dump fault) lacks told untouched cause = absurd lacks

@@ -1,4 +1,5 @@
 pub mod Answered
+pub mod Begun
 pub mod Blocks
 pub mod Causes
 pub mod Crashed

@@ -1,9 +1,9 @@
 -- Texts that are printed, and what is after them.
-use Rattle.std.proofs.Common.{zero, suc, ◌≢◌, inl, inr, ◌≤◌, ℕ, List, [], Option, Some, None, Result, Ok, Err, OnOk, OnErr, subst, arith, append-nil}
+use Rattle.std.proofs.Common.{◌≡◌, zero, suc, ◌≢◌, inl, inr, ◌≤◌, ℕ, List, [], Option, Some, None, Result, Ok, Err, OnOk, OnErr, subst, arith, append-nil}
 use Rattle.definitions.specs.Streams.{Takes, TakesAll, TakesFront}
 use Rattle.byte_streams.specs.Flushed.{IsFlushed}
 use Rattle.command_kit.specs.Told.{RunResult, memory_told}
-use Rattle.swsusp_cli.specs.Outcome.{IsReplayed, no_script, out_of_memory, unread, too_small, unformatted, played, cut_off, fault_told, small_told, unformatted_told}
+use Rattle.swsusp_cli.specs.Outcome.{IsReplayed, IsUnplayed, no_script, out_of_memory, unread, too_small, unformatted, unplayed, played, cut_off, fault_told, small_told, unformatted_told}
 use Rattle.page_core.specs.declared.format.Format.{Format}
 use Rattle.plain_machine.specs.declared.event.IdentCheck.{IdentCheck}
 use Rattle.swsusp_cli.specs.Dumps as dumps
@@ -58,16 +58,23 @@ fails_early text old new end = record {
 abbrev pub AreFlushed : SinkView → SinkView → Type 0
 AreFlushed out note = IsFlushed out.taken out.flushed × IsFlushed note.taken note.flushed
 
+-- the result of an answer, by what the answer is
+pub told_as : {told named : RunResult} {status : Status} {out out' note note' : SinkView} → told ≡ named → IsTold told status out out' note note' → IsTold named status out out' note note'
+told_as {status = status} {out = out} {out' = out'} {note = note} {note' = note'} is tells = subst (λ (t : RunResult). IsTold t status out out' note note') is tells
+
 pub told_flushed : (told : RunResult) (status : Status) (out out' note note' : SinkView) → IsTold told status out out' note note' → status ≢ Stream → AreFlushed out' note'
 told_flushed told status out out' note note' (inl whole) well = (whole.out_whole.flushed, whole.note_whole.flushed)
 told_flushed told status out out' note note' (inr short) well = absurd (well short.status_is)
 
+unplayed_flushed : (x x' : View) (status : Status) → IsUnplayed x x' status → status ≢ Stream → AreFlushed x'.out x'.note
+unplayed_flushed x x' status (no_script fault is) well = told_flushed (fault_told fault) status x.out x'.out x.note x'.note is.told well
+unplayed_flushed x x' status (out_of_memory is) well = told_flushed memory_told status x.out x'.out x.note x'.note is.told well
+unplayed_flushed x x' status (unread is) well = absurd (well is.status_is)
+unplayed_flushed x x' status (too_small script of is) well = told_flushed (small_told x.disk.blocks is.need) status x.out x'.out x.note x'.note is.told well
+unplayed_flushed x x' status (unformatted script call of is) well = told_flushed (unformatted_told call) status x.out x'.out x.note x'.note is.told well
+
 pub replay_flushed : (x x' : View) (status : Status) → IsReplayed x x' status → status ≢ Stream → AreFlushed x'.out x'.note
-replay_flushed x x' status (no_script fault is) well = told_flushed (fault_told fault) status x.out x'.out x.note x'.note is.told well
-replay_flushed x x' status (out_of_memory is) well = told_flushed memory_told status x.out x'.out x.note x'.note is.told well
-replay_flushed x x' status (unread is) well = absurd (well is.status_is)
-replay_flushed x x' status (too_small script of is) well = told_flushed (small_told x.disk.blocks is.need) status x.out x'.out x.note x'.note is.told well
-replay_flushed x x' status (unformatted script call of is) well = told_flushed (unformatted_told call) status x.out x'.out x.note x'.note is.told well
+replay_flushed x x' status (unplayed is) well = unplayed_flushed x x' status is well
 replay_flushed x x' status (played script is) well = (is.prints.2.flushed, is.note.flushed)
 replay_flushed x x' status (cut_off script is) well = absurd (well is.status_is)
 

@@ -1,6 +1,5 @@
 -- The promise of a run, by what its words ask for.
 use Rattle.std.proofs.Common.{◌≡◌, ◌≢◌, inr, ℕ, refl, sym, subst, Option, Some, None, List, [], IsTrue, arith}
-use Rattle.std.specs.Prelude.{⊤}
 use Rattle.definitions.specs.Streams.{HandsOut}
 use Rattle.command_kit.specs.Causes.{SinksFail}
 use Rattle.command_kit.specs.Told.{RunResult, memory_told}

@@ -1,15 +1,12 @@
 -- From events played over a formatted disk to a run of the plain machine.
-use Rattle.std.proofs.Common.{◌≡◌, ◌⊎◌, inl, inr, ◌≤◌, ◌<◌, ℕ, ◌+◌, ◌*◌, List, ◌++◌, length, take, Some, None, refl, sym, ap, ◌∙◌, subst, arith}
-use Rattle.std.proofs.Math.Nat.{min-le_left, min-le_right}
-use Rattle.std.proofs.lemmas.List.{length-take, take_all}
+use Rattle.std.proofs.Common.{◌≡◌, ◌⊎◌, inl, inr, ◌≤◌, ◌<◌, ℕ, ◌+◌, List, ◌++◌, length, take, Some, None, refl, sym, ap, ◌∙◌, subst, arith}
+use Rattle.std.proofs.Math.Nat.{min-le_left}
+use Rattle.std.proofs.lemmas.List.{take_all}
 use Rattle.std.proofs.lemmas.List.Sums.{count_by-le-length, length-filter}
-use Rattle.std.specs.Prelude.{⊤}
 use Rattle.std.specs.Option.{IfSome}
 use Rattle.definitions.specs.Disk as disk
 use Rattle.definitions.specs.Streams.{TakesAll}
-use Rattle.definitions.proofs.DiskLaws.{length-as_it_reads}
 use Rattle.plain_machine.specs.Machine.{Hardware, IsHardware}
-use Rattle.plain_machine.specs.Chain.{blocks_of}
 use Rattle.plain_machine.specs.Replies.{text_of}
 use Rattle.plain_machine.specs.Stands.{Stands}
 use Rattle.plain_machine.specs.State.{State, off, nothing}
@@ -21,9 +18,9 @@ use Rattle.script.specs.Grammar.{ScriptValue}
 use Rattle.sector_disk.specs.declared.orders.Order.{Order}
 use Rattle.world_core.specs.StandsFor.{StandsFor, IsNewWorld, hardware_of, shown}
 use Rattle.world_core.specs.World.{World}
-use Rattle.swsusp_cli.specs.Replay.{Formats, LieBelow, calls_until}
+use Rattle.swsusp_cli.specs.Replay.{Formats, LieBelow}
 use Rattle.command_kit.specs.Told.{done}
-use Rattle.swsusp_cli.specs.Outcome.{IsScript, IsReplayed, IsTooSmall, IsUnformatted, Tells, no_script, out_of_memory, unread, too_small, unformatted, played, cut_off, small_told, unformatted_told}
+use Rattle.swsusp_cli.specs.Outcome.{IsScript, IsReplayed, IsTooSmall, IsUnformatted, IsUnplayed, Tells, too_small, unformatted, played, cut_off, small_told, unformatted_told}
 use Rattle.swsusp_cli.specs.Playing.{HasPlayed, Played}
 use Rattle.swsusp_cli.specs.Replay.{orders_of, IsRun, IsNoSlot, AreReplies, Prints}
 use Rattle.world_runs.specs.Turns.{is_step, steps_of}
@@ -31,12 +28,11 @@ use Rattle.swsusp_cli.specs.SettingUp.{FailsToSetUp, HasTooFew, IsNotSetUp, IsSe
 use Rattle.command_kit.specs.Told.{AreFronts, IsTold, IsTried, sink_note}
 use Rattle.command_kit.specs.View.{View, DiskView, SinkView}
 use Rattle.swsusp_cli.specs.declared.formatting.Unformatted.{Unformatted}
-use Rattle.swsusp_cli.specs.declared.formatting.Unformatted.TheVariants.{Write, Sync}
 use Rattle.swsusp_cli.specs.declared.setting_up.Unready.{Unready}
 use Rattle.swsusp_cli.specs.declared.setting_up.Unready.TheVariants.{Small, Unformatted as NotFormatted}
 use Rattle.command_kit.specs.declared.status.Status.{Status}
 use Rattle.world_runs.proofs.Leaving.{leaves_then}
-use Rattle.swsusp_cli.proofs.Formatted.{CanFormat, formatted_unmarked, formats_leaves, formats_size}
+use Rattle.swsusp_cli.proofs.Formatted.{CanFormat, formatted_unmarked, formats_leaves}
 use Rattle.swsusp_cli.proofs.Prints.{printed_then, whole_still, fails_early}
 use Rattle.world_runs.proofs.Counted.{counted_earlier, risen_earlier}
 use Rattle.swsusp_cli.proofs.Turns.{whole_of}
@@ -140,7 +136,7 @@ risen_of script x x' (Small blocks need) is of_call = absurd of_call
 risen_of script x x' (NotFormatted call) is of_call = is.risen
 
 -- A script whose machine isn't set up, as it is told.
-pub not_set_up : (x x' : View) (status : Status) (script : ScriptValue) (why : Unready) → IsScript x x' script → IsNotSetUp script x.disk x'.disk why → Tells (unready_told why) status x x' → IsReplayed x x' status
+pub not_set_up : (x x' : View) (status : Status) (script : ScriptValue) (why : Unready) → IsScript x x' script → IsNotSetUp script x.disk x'.disk why → Tells (unready_told why) status x x' → IsUnplayed x x' status
 not_set_up x x' status script (Small blocks need) is few told = too_small script is (small_disk x x' status script blocks need few told)
 not_set_up x x' status script (NotFormatted call) is fails told = unformatted script call is (not_formatted x x' status script call fails told)
 

@@ -1,8 +1,6 @@
 -- Events played one after another: what one more makes.
-use Rattle.std.proofs.Common.{suc, ◌≡◌, ◌⊎◌, inl, inr, ◌≤◌, ◌<◌, ℕ, ◌+◌, Contains, List, [], ◌∷◌, ◌++◌, length, take, get_or, filter, cond, Bool, true, false, Option, Some, None, refl, sym, ap, ◌∙◌, arith, subst, append_assoc, length-append}
-use Rattle.std.proofs.lemmas.List.Elements.{filter-append}
+use Rattle.std.proofs.Common.{◌≡◌, ◌⊎◌, inl, inr, ◌≤◌, ◌<◌, ℕ, ◌+◌, Contains, List, [], ◌∷◌, ◌++◌, length, take, get_or, filter, cond, Bool, true, false, Option, Some, None, refl, sym, ap, ◌∙◌, arith, subst, append_assoc, length-append}
 use Rattle.std.proofs.lemmas.Grind.{flat_map-append}
-use Rattle.std.proofs.Math.Nat.{min-le_left}
 use Rattle.std.proofs.lemmas.List.{take_all, take_more, append-nil}
 use Rattle.std.specs.Option.{IfSome}
 use Rattle.definitions.specs.Disk as disk
@@ -19,14 +17,14 @@ use Rattle.plain_machine.specs.declared.reply.Reply.{Reply}
 use Rattle.protocol_laws.specs.Rows.{IsSameArea, TellsNewFault, LeavesBlock, blocks_written}
 use Rattle.protocol_laws.proofs.WrittenWhileHeld.{at_written}
 use Rattle.protocol_laws.proofs.Unwritten.{block_same}
-use Rattle.world_core.specs.Row.{SimulatesWhereTold, IsStep, CallsAtMostOnce}
+use Rattle.world_core.specs.Row.{SimulatesWhereTold, CallsAtMostOnce}
 use Rattle.world_core.specs.Orders.{orders_after}
 use Rattle.world_core.specs.StandsFor.{hardware_of, shown}
 use Rattle.world_core.specs.World.{World}
 use Rattle.swsusp_cli.specs.Playing.{Played, HasPlayed}
 use Rattle.swsusp_cli.specs.Replay.{orders_of}
 use Rattle.sector_disk.specs.declared.orders.Order.{Order}
-use Rattle.world_runs.specs.Turns.{is_step, steps_of, AreCounted}
+use Rattle.world_runs.specs.Turns.{AreCounted}
 use Rattle.world_runs.proofs.Counted.{called_one, counted_append, counted_one, counted_later, steps_append}
 use Rattle.command_kit.specs.View.{DiskView}
 use Rattle.world_runs.proofs.Leaving.{leaves_then}

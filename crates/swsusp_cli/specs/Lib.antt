@@ -1,3 +1,4 @@
+pub mod Beginning
 pub mod Causes
 pub mod Choice
 pub mod Drills

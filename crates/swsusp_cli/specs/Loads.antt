@@ -1,5 +1,5 @@
 -- How `resume` may end: it reads a loader's dump, and its machine answers.
-use Rattle.std.specs.Prelude.{◌≡◌, ◌≤◌, ◌+◌, ℕ, List, [], Bool, true, false, if◌then◌else◌, Option, Some, Ok}
+use Rattle.std.specs.Prelude.{◌≡◌, [], Bool, true, false, if◌then◌else◌}
 use Rattle.dump_file.specs.Dump.{DumpValue}
 use Rattle.dump_file.specs.Written.{dump_bytes}
 use Rattle.dump_file.specs.declared.dump.DumpFault.{DumpFault}

@@ -14,7 +14,7 @@ use Rattle.swsusp_cli.specs.declared.formatting.Unformatted.TheVariants.{Write, 
 use Rattle.command_kit.specs.declared.status.Status.{Status}
 use Rattle.command_kit.specs.declared.status.Status.TheVariants.{Done, Refused, Input, Stream, Device}
 
--- What a replay that plays nothing prints.
+-- What is printed of a script that isn't played.
 abbrev pub small_told : ℕ → ℕ → RunResult
 small_told blocks need = record { status = Refused; out = []; note = small_note blocks need }
 
@@ -93,14 +93,18 @@ pub record IsPrintedInPart (x x' : View) (status : Status) (script : ScriptValue
       ⊎ (Prints script x x' × disk.HasRisen x.note.faults x'.note.faults)
   pub note : IsTried sink_note x.note x'.note
 
+-- How a command ends whose script isn't played, by the view of the outside before and after it.
+pub data IsUnplayed (x x' : View) (status : Status) : Type 0 where
+  no_script : (fault : ScriptFault) → IsNoScript x x' status fault → IsUnplayed x x' status
+  out_of_memory : IsOutOfMemory x x' status → IsUnplayed x x' status
+  unread : FailsAtSource x x' status → IsUnplayed x x' status
+  too_small : (script : ScriptValue) → IsScript x x' script → IsTooSmall x x' status script → IsUnplayed x x' status
+  unformatted : (script : ScriptValue) (call : Unformatted) → IsScript x x' script →
+      IsUnformatted x x' status script call → IsUnplayed x x' status
+
 -- How a replay may end, by the view of the outside before and after it.
 pub data IsReplayed (x x' : View) (status : Status) : Type 0 where
-  no_script : (fault : ScriptFault) → IsNoScript x x' status fault → IsReplayed x x' status
-  out_of_memory : IsOutOfMemory x x' status → IsReplayed x x' status
-  unread : FailsAtSource x x' status → IsReplayed x x' status
-  too_small : (script : ScriptValue) → IsScript x x' script → IsTooSmall x x' status script → IsReplayed x x' status
-  unformatted : (script : ScriptValue) (call : Unformatted) → IsScript x x' script →
-      IsUnformatted x x' status script call → IsReplayed x x' status
+  unplayed : IsUnplayed x x' status → IsReplayed x x' status
   played : (script : ScriptValue) → IsPlayed x x' status script → IsReplayed x x' status
   cut_off : (script : ScriptValue) → IsPrintedInPart x x' status script → IsReplayed x x' status
 

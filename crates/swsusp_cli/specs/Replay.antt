@@ -11,7 +11,7 @@ use Rattle.plain_machine.specs.State.{State, off, nothing}
 use Rattle.plain_machine.specs.Step.{Run}
 use Rattle.plain_machine.specs.declared.event.Event.{Event}
 use Rattle.plain_machine.specs.declared.reply.Reply.{Reply}
-use Rattle.protocol_laws.specs.Rows.{TellsNewFault, LeavesBlock}
+use Rattle.protocol_laws.specs.Rows.{LeavesBlock}
 use Rattle.sector_disk.specs.declared.orders.Order.{Order}
 use Rattle.world_core.specs.Orders.{orders_after}
 use Rattle.world_runs.specs.Turns.{AreCounted, steps_of}

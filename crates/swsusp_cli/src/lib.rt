@@ -1,6 +1,7 @@
 //! The commands of `swsusp`, and the top call.
 #![tactic(auto)]
 
+mod beginning;
 mod choosing;
 mod drilling;
 mod dump_input;
@@ -17,12 +18,12 @@ mod setting_up;
 mod stop;
 mod top;
 
+pub use beginning::begin;
 pub use choosing::{Choice, swap_name};
 pub use drilling::play_through;
 pub use dump_input::{dump_of_input, machine_of, stopped, succeeded};
 pub use playing::play;
-pub use replay::{cut_off, parse_input};
+pub use replay::cut_off;
 pub use resuming::tell_dump;
-pub use setting_up::{Unready, set_up};
 pub use stop::Stop;
 pub use top::run;

@@ -11,17 +11,16 @@ ghost use Rattle.command_kit.specs.Told.{IsTried, sink_note};
 ghost use Rattle.swsusp_cli.specs.Causes.{HasCauseIn};
 ghost use Rattle.command_kit.specs.View.{sink_view, view};
 
+use crate::beginning::begin;
 use crate::playing::play;
 use crate::reading::read_script;
-use crate::setting_up::set_up;
 use crate::stop::Stop;
 use byte_streams::{Line, Sink, Source};
-use command_kit::{Answer, Status, no_memory, print};
-use page_core::{Failed, NoMemory};
+use command_kit::{Answer, Status, print};
+use page_core::Failed;
 use script::{Script, ScriptFault, parse};
 use sector_disk::Disk;
 use std::alloc::Global;
-use world_core::World;
 
 /// Reads a script, formats the area that it names at the block of its first slot, and plays its events.
 #[inline(never)]
@@ -40,18 +39,10 @@ pub fn replay<I: Source, O: Sink, N: Sink, D: Disk>(
         (view I.Source O.Sink N.Sink D.Disk input.new out.new note.new disk.new) result }
     ensures read { HandsOutAtMost 1048577 (I.remaining input.old) (I.remaining input.new) }
 {
-    let script = match parse_input(alloc, input) {
-        Ok(script) => script,
-        Err(stop) => return stop.tell(out, note),
+    let (script, mut world) = match begin(alloc, input, out, note, disk) {
+        Ok(begun) => begun,
+        Err(status) => return status,
     };
-    let mut world = match World::create(alloc, *script.hardware()) {
-        Ok(world) => world,
-        Err(NoMemory) => return no_memory().tell(out, note),
-    };
-    match set_up(&script, disk) {
-        Ok(()) => {}
-        Err(why) => return why.answer().tell(out, note),
-    }
     match play(&mut world, disk, out, script.events()) {
         Ok(()) => done().tell(out, note),
         Err(Failed) => cut_off(note),

@@ -1,21 +1,20 @@
 -- A page that went out comes back, over hibernations.
 use Rattle.std.proofs.Common.{◌≡◌, ◌≢◌, ◌<◌, ◌-◌, ◌⊎◌, inl, inr, ℕ, ◌+◌, ◌||◌, ◌&&◌, ◌++◌, not, Bool, true, false, cond, eqb, ltb, zero, suc, length, List, [], ◌∷◌, Option, Some, None, unwrap_or, refl, sym, ap, ◌∙◌, subst, arith, Contains}
 use Rattle.std.specs.List.{AllByRecursion}
-use Rattle.std.proofs.lemmas.Bool.{cases_Bool, eq-eqb, eqb-true}
+use Rattle.std.proofs.lemmas.Bool.{eq-eqb, eqb-true}
 use Rattle.std.proofs.lemmas.List.{get_or-set_same, length-set}
 use Rattle.std.proofs.lemmas.List.Elements.{All-from_recursion, All-contains}
 use Rattle.std.proofs.lemmas.Option.{none-some, same_Some}
 use Rattle.definitions.specs.Disk as disk
 use Rattle.definitions.specs.NumberPages.{meta_of}
 use Rattle.definitions.specs.Tables.{frame}
-use Rattle.page_core.specs.declared.format.Format.{Format}
 use Rattle.plain_machine.specs.Machine.{Hardware, Memory, saveable}
-use Rattle.plain_machine.specs.Image.{Image, SlotPages, image_of_memory, n_of, d_of, resume_steps, hibernate_steps}
+use Rattle.plain_machine.specs.Image.{Image, SlotPages, n_of, d_of, resume_steps}
 use Rattle.plain_machine.specs.Loader.{restored}
 use Rattle.plain_machine.specs.Refusals.{refusal, refused_if, has_step}
 use Rattle.plain_machine.specs.State.{State, off, on, booting, hibernating, undoing, settling, waking, loading, asleep, Running, Held, nothing, sure, maybe, perhaps, own, other, Flight, goes_out, comes_in, Load, Found, not_yet, found_own, found_other, saved_found, held_in, held_back, held_hibernating, held_loading}
 use Rattle.plain_machine.specs.Calls.{HibernationCall, writes_page, syncs_pages, reads_header, writes_mark, syncs_mark, hibernation_call, BackCall, reads_mark, takes_back, syncs_back, back_call, LoadCall, syncs_first, of_mark, reads_image, load_call}
-use Rattle.plain_machine.specs.Step.{Step, Run, Outcome, outcomes, accepted, refused_or, only, if_running, begun, woken, requested, task_step, with_flight, with_frame, with_slot, with_slot_entry, booted, boot_outcomes, boot_step, core_step, drop_memory, dropped_by, hibernated, hibernation_outcomes, hibernate_step, undo_step, settle_step, wake_step, resumed, find_step, loaded_step, load_step, load_answers, has_place, load_fault, fault_of_load, own_step, too_few, has_room, undone_fault}
+use Rattle.plain_machine.specs.Step.{Step, Run, Outcome, outcomes, accepted, refused_or, only, if_running, begun, woken, requested, task_step, with_flight, with_frame, with_slot, with_slot_entry, boot_outcomes, boot_step, core_step, drop_memory, dropped_by, hibernated, hibernation_outcomes, undo_step, settle_step, wake_step, resumed, find_step, loaded_step, load_step, load_answers, has_place, load_fault, fault_of_load, own_step, too_few, has_room, undone_fault}
 use Rattle.plain_machine.specs.declared.event.Actor.TheVariants as actor
 use Rattle.plain_machine.specs.declared.event.BootFrom.{BootFrom}
 use Rattle.plain_machine.specs.declared.event.BootFrom.TheVariants.{Fresh, Kept}

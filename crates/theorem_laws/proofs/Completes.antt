@@ -2,7 +2,6 @@
 use Rattle.std.proofs.Common.{◌≡◌, inl, inr, ℕ, Bool, true, false, cond, Option, List, [], refl, sym, ap, ◌∙◌, subst}
 use Rattle.std.proofs.lemmas.Bool.{false≢true}
 use Rattle.page_core.specs.declared.format.Format.{Format}
-use Rattle.dump_file.specs.Dump.{DumpValue}
 use Rattle.dump_file.specs.Written.{dump_bytes}
 use Rattle.plain_machine.specs.Replies.{line_of}
 use Rattle.plain_machine.specs.Machine.{Hardware, Memory}
@@ -26,7 +25,7 @@ use Rattle.swsusp_cli.specs.Exports.{Exports, slots_told, stream_told}
 use Rattle.swsusp_cli.specs.Imports as imports
 use Rattle.swsusp_cli.specs.Imports.{Imports, imported_told, stop_told}
 use Rattle.swsusp_cli.specs.Outcome as outcome
-use Rattle.swsusp_cli.specs.Outcome.{IsReplayed, Tells, fault_told, small_told, unformatted_told}
+use Rattle.swsusp_cli.specs.Outcome.{IsReplayed, IsUnplayed, Tells, fault_told, small_told, unformatted_told}
 use Rattle.swsusp_cli.specs.Run.{Inspects, Refuses}
 use Rattle.stream_in.specs.declared.stop.InStop.{InStop}
 use Rattle.stream_in.specs.declared.stop.InStop.TheVariants as stop
@@ -118,12 +117,15 @@ module _ {X : Type 0} (D : Ghosts X) (before after : X) (x x' : View) (ends : St
   import_completes (imports.stopped why is told) = absurd (no_done (stop_told why) ends x x' told (stop_no_done why) done)
   import_completes (imports.unread is) = absurd (stream_no_done (sym is.status_is ∙ done))
 
+  unplayed_fails : IsUnplayed x x' ends → ⊥
+  unplayed_fails (outcome.no_script fault is) = no_done (fault_told fault) ends x x' is.told (λ e. cc) done
+  unplayed_fails (outcome.out_of_memory is) = no_done memory_told ends x x' is.told (λ e. cc) done
+  unplayed_fails (outcome.unread is) = stream_no_done (sym is.status_is ∙ done)
+  unplayed_fails (outcome.too_small script of is) = no_done (small_told x.disk.blocks is.need) ends x x' is.told (λ e. cc) done
+  unplayed_fails (outcome.unformatted script call of is) = no_done (unformatted_told call) ends x x' is.told (λ e. cc) done
+
   pub replay_completes : IsReplayed x x' ends → HasReplayed x x' ends
-  replay_completes (outcome.no_script fault is) = absurd (no_done (fault_told fault) ends x x' is.told (λ e. cc) done)
-  replay_completes (outcome.out_of_memory is) = absurd (no_done memory_told ends x x' is.told (λ e. cc) done)
-  replay_completes (outcome.unread is) = absurd (stream_no_done (sym is.status_is ∙ done))
-  replay_completes (outcome.too_small script of is) = absurd (no_done (small_told x.disk.blocks is.need) ends x x' is.told (λ e. cc) done)
-  replay_completes (outcome.unformatted script call of is) = absurd (no_done (unformatted_told call) ends x x' is.told (λ e. cc) done)
+  replay_completes (outcome.unplayed is) = absurd (unplayed_fails is)
   replay_completes (outcome.played script is) = record { script = script; played = is }
   replay_completes (outcome.cut_off script is) = absurd (stream_no_done (sym is.status_is ∙ done))
 

@@ -1,11 +1,11 @@
 -- What a crash inside a hibernation and a resume leaves.
-use Rattle.std.proofs.Common.{◌≡◌, ◌⊎◌, inl, inr, ℕ, List, Option, Some, Ok, sym, ap, ◌∙◌, subst}
+use Rattle.std.proofs.Common.{◌≡◌, inl, inr, ℕ, Option, Some, sym, ap, ◌∙◌, subst}
 use Rattle.std.specs.Prelude.{IsTrue}
 use Rattle.std.specs.Result.{result_ok}
 use Rattle.std.proofs.lemmas.Option.{same_Some}
 use Rattle.page_core.specs.declared.format.Format.{Format}
 use Rattle.definitions.specs.Disk as disk
-use Rattle.dump_file.specs.Dump.{DumpValue, dump_of}
+use Rattle.dump_file.specs.Dump.{DumpValue}
 use Rattle.plain_machine.specs.Chain.{Marked}
 use Rattle.plain_machine.specs.Machine.{Hardware}
 use Rattle.plain_machine.specs.UsableArea.{HasOriginal}

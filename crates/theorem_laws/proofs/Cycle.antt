@@ -1,5 +1,5 @@
 -- Hibernate, then resume.
-use Rattle.std.proofs.Common.{◌≡◌, inl, inr, ◌≤◌, ◌<◌, ℕ, ◌+◌, ◌-◌, Bool, true, false, cond, not, eqb, ◌&&◌, List, [], ◌∷◌, ◌++◌, length, Option, Some, None, unwrap_or, refl, sym, ap, ◌∙◌, subst, arith}
+use Rattle.std.proofs.Common.{◌≡◌, inl, inr, ℕ, ◌+◌, ◌-◌, Bool, true, false, not, eqb, ◌&&◌, List, [], ◌∷◌, ◌++◌, length, Option, Some, None, unwrap_or, refl, sym, ap, ◌∙◌, subst, arith}
 use Rattle.std.proofs.lemmas.Bool.{cond-false, cond-true, eq-eqb, false≢true, le-leb}
 use Rattle.std.proofs.lemmas.Option.{same_Some}
 use Rattle.page_core.specs.declared.format.Format.{Format}
@@ -11,9 +11,9 @@ use Rattle.plain_machine.specs.Image.{Image, d_of, n_of, resume_steps}
 use Rattle.plain_machine.specs.Loader.{left_free, need}
 use Rattle.plain_machine.specs.Machine.{Hardware, Memory, IsHardware, block_of_slot}
 use Rattle.plain_machine.specs.Refusals.{refusal}
-use Rattle.plain_machine.specs.Stands.{EachImage, IsOwn, IsSameOrTakenBack}
+use Rattle.plain_machine.specs.Stands.{IsOwn, IsSameOrTakenBack}
 use Rattle.plain_machine.specs.State.{Load, Running, nothing, not_yet, on}
-use Rattle.plain_machine.specs.Step.{Outcome, has_room, own_step, too_few, resumed}
+use Rattle.plain_machine.specs.Step.{Outcome, has_room, own_step, too_few}
 use Rattle.plain_machine.specs.Trace.{trace}
 use Rattle.plain_machine.specs.UsableArea.{HasOriginal}
 use Rattle.plain_machine.specs.declared.event.Event.TheVariants as event
@@ -28,7 +28,7 @@ use Rattle.protocol_laws.proofs.Tracing.{restored_is, traces_own}
 use Rattle.sector_disk.specs.declared.disk.Disk.{Ghosts}
 use Rattle.command_core.specs.Runs.{goes_on}
 use Rattle.command_core.specs.declared.ending.Ended.{Ended}
-use Rattle.command_laws.specs.Hibernations.{EndsInFault, HasHibernated, hibernation_answer, image_to_save, machine_to_save}
+use Rattle.command_laws.specs.Hibernations.{EndsInFault, HasHibernated, image_to_save, machine_to_save}
 use Rattle.command_laws.specs.Resumptions.{HasResumed as IsResumed, IsLast, MayLeaveMark}
 use Rattle.command_laws.proofs.Hibernated.{has_hibernated, original_kept}
 use Rattle.command_laws.proofs.Resumed.{has_resumed, resumption_taken}

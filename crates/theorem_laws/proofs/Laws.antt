@@ -1,18 +1,15 @@
 -- What follows of the theorem (specs/Theorem.antt), a law for each promise that a reader may look for.
-use Rattle.std.proofs.Common.{◌≡◌, ◌≤◌, ℕ, ◌+◌, List, length, take, Option, None, ap, arith}
+use Rattle.std.proofs.Common.{◌≡◌, ◌≤◌, ℕ, ◌+◌, List, length, take, None, ap, arith}
 use Rattle.std.proofs.Math.Nat.{min-le_left, min-le_right}
 use Rattle.std.proofs.lemmas.List.{length-take}
 use Rattle.definitions.specs.Disk as disk
-use Rattle.page_core.specs.declared.format.Format.{Format}
 use Rattle.plain_machine.specs.State.{off, nothing}
 use Rattle.plain_machine.specs.declared.event.Event.{Event}
-use Rattle.plain_machine.specs.declared.event.IdentCheck.{IdentCheck}
 use Rattle.plain_machine.specs.declared.reply.Reply.{Reply}
 use Rattle.command_kit.specs.View.{DiskView, View}
 use Rattle.command_kit.specs.declared.status.Status.{Status}
 use Rattle.script.specs.Grammar.{ScriptValue}
 use Rattle.script.specs.Drill.{drill_events}
-use Rattle.sector_disk.specs.declared.disk.Disk.{Ghosts}
 use Rattle.theorem_laws.specs.Copies.{AllRestore}
 use Rattle.theorem_laws.specs.Resumes.{AreResumedOnce}
 use Rattle.theorem_laws.specs.Sleeps.{NeverBothGoOn}
@@ -22,15 +19,11 @@ use Rattle.theorem_laws.proofs.Sleeps.{never_both}
 use Rattle.world_runs.specs.Turns.{steps_of}
 use Rattle.swsusp_cli.specs.Drills as drills
 use Rattle.swsusp_cli.specs.Drills.{IsDrilled}
-use Rattle.swsusp_cli.specs.Dumps.{HasAnswered}
 use Rattle.swsusp_cli.specs.Replay.{calls_until}
-use Rattle.swsusp_cli.specs.Loads.{HasLoaded}
-use Rattle.swsusp_cli.specs.Outcome.{IsReplayed, no_script, out_of_memory, unread, too_small, unformatted, played, cut_off}
+use Rattle.swsusp_cli.specs.Outcome.{IsReplayed, IsUnplayed, no_script, out_of_memory, unread, too_small, unformatted, unplayed, played, cut_off}
 use Rattle.swsusp_cli.specs.Replay.{IsRun}
 use Rattle.swsusp_cli.specs.declared.formatting.Unformatted.{Unformatted}
 use Rattle.swsusp_cli.specs.declared.formatting.Unformatted.TheVariants.{Write, Sync}
-use Rattle.command_core.specs.declared.ending.Ended.{Ended}
-use Rattle.dump_file.specs.Dump.{DumpValue}
 use Rattle.swsusp_cli.proofs.Replays.{steps_few}
 
 -- The headline, of each run that `replay` prints, `drill` sums up and the others do: a hibernation stands before each
@@ -58,13 +51,16 @@ until_few : (call : Unformatted) (before after : ℕ) → after ≡ calls_until 
 until_few Write before after is = omega (arith, min-le_left (before + 1) disk.last_count)
 until_few Sync before after is = omega (arith, min-le_left (before + 1) disk.last_count, min-le_left (disk.raised before + 1) disk.last_count)
 
+few_calls_of_unplayed : (x x' : View) (status : Status) → IsUnplayed x x' status → x'.disk.calls ≤ x.disk.calls + 100002
+few_calls_of_unplayed x x' status (no_script fault is) = calls_untouched x x' is.untouched
+few_calls_of_unplayed x x' status (out_of_memory is) = calls_untouched x x' is.untouched
+few_calls_of_unplayed x x' status (unread is) = calls_untouched x x' is.untouched
+few_calls_of_unplayed x x' status (too_small script of is) = calls_untouched x x' is.untouched
+few_calls_of_unplayed x x' status (unformatted script call of is) = until_few call x.disk.calls x'.disk.calls is.calls
+
 -- by a replay at most twice, and once for each event that a script may have
 pub few_calls_of_replay : (x x' : View) (status : Status) → IsReplayed x x' status → x'.disk.calls ≤ x.disk.calls + 100002
-few_calls_of_replay x x' status (no_script fault is) = calls_untouched x x' is.untouched
-few_calls_of_replay x x' status (out_of_memory is) = calls_untouched x x' is.untouched
-few_calls_of_replay x x' status (unread is) = calls_untouched x x' is.untouched
-few_calls_of_replay x x' status (too_small script of is) = calls_untouched x x' is.untouched
-few_calls_of_replay x x' status (unformatted script call of is) = until_few call x.disk.calls x'.disk.calls is.calls
+few_calls_of_replay x x' status (unplayed is) = few_calls_of_unplayed x x' status is
 few_calls_of_replay x x' status (played script is) =
     let few = steps_few script.events 100000 is.script_is.few in
     let calls = is.prints.1.calls in

@@ -1,11 +1,9 @@
 -- A page that went out comes back, over hibernations: until another page goes out to its slot, no other page can be
 -- brought in from there. In Linux: swap_writepage and swap_readpage, mm/page_io.c; an image leaves the slots of the
 -- tasks as they are (alloc_swapdev_block, kernel/power/swap.c).
-use Rattle.std.specs.Prelude.{◌≡◌, ◌≢◌, ◌<◌, ◌≤◌, ℕ, List, length, Some, IsSome, Contains, ⊤}
-use Rattle.definitions.specs.Disk as disk
+use Rattle.std.specs.Prelude.{◌≡◌, ◌≢◌, ◌<◌, ℕ, List, length, Some, Contains, ⊤}
 use Rattle.definitions.specs.Tables.{frame}
 use Rattle.plain_machine.specs.Image.{SlotPages}
-use Rattle.plain_machine.specs.Machine.{Hardware}
 use Rattle.plain_machine.specs.State.{State, off, on, booting, hibernating, undoing, settling, waking, loading, asleep}
 use Rattle.plain_machine.specs.State.{Running, Held, nothing, sure, maybe, own, other, Found, not_yet, found_own}
 use Rattle.plain_machine.specs.State.{found_other}

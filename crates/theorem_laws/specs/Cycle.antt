@@ -1,7 +1,6 @@
 -- Hibernate, then resume: what the two commands give together. In Linux: hibernate and software_resume,
 -- kernel/power/hibernate.c, with a restart between them.
-use Rattle.std.specs.Prelude.{◌≡◌, ◌<◌, ◌≤◌, ℕ, List, Some, Contains, length, false}
-use Rattle.page_core.specs.declared.format.Format.{Format}
+use Rattle.std.specs.Prelude.{◌≡◌, ◌<◌, ◌≤◌, ℕ, List, Some, Contains, length}
 use Rattle.definitions.specs.Disk as disk
 use Rattle.definitions.specs.Tables.{frame}
 use Rattle.definitions.specs.Zones.{top}

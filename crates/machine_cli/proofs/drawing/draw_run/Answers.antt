@@ -1,6 +1,6 @@
-use Rattle.std.proofs.Common.{◌≡◌, ◌++◌, ℕ, List, [], take, length, sym, subst, arith}
+use Rattle.std.proofs.Common.{◌≡◌, ◌++◌, List, [], take, length, sym, subst, arith}
 use Rattle.std.proofs.lemmas.List.{take_all}
-use Rattle.definitions.specs.Streams.{TakesAll, TakesFront}
+use Rattle.definitions.specs.Streams.{TakesFront}
 use Rattle.plain_machine.specs.declared.event.Event.{Event}
 use Rattle.byte_streams.proofs.Taken.{TakesAll-both, TakesFront-first, TakesFront-second}
 use Rattle.run_picture.specs.Lanes.{first}

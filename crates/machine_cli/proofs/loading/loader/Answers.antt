@@ -1,4 +1,4 @@
-use Rattle.std.proofs.Common.{◌≡◌, inr, refl, subst, Err, ap}
+use Rattle.std.proofs.Common.{inr, refl, subst, Err, ap}
 use Rattle.dump_file.specs.Dump.{DumpValue}
 use Rattle.command_kit.specs.Told.{RunResult}
 use Rattle.swsusp_cli.specs.Loads.{written_told}

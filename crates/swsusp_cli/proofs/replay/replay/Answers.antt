@@ -1,91 +1,59 @@
-use Rattle.std.proofs.Common.{inl, inr, List, None, refl, subst, take, Err, ap}
-use Rattle.plain_machine.specs.Machine.{Hardware}
+use Rattle.std.proofs.Common.{inl, inr, List, refl, subst, take}
 use Rattle.plain_machine.specs.declared.event.Event.{Event}
-use Rattle.world_core.specs.StandsFor.{IsNewWorld}
-use Rattle.command_kit.specs.Told.{RunResult}
-use Rattle.swsusp_cli.specs.Outcome.{cut_off, no_script, out_of_memory, unread}
+use Rattle.command_kit.specs.View.{View, disk_view, sink_view, view}
+use Rattle.command_kit.specs.declared.status.Status.TheVariants.{Done}
+use Rattle.swsusp_cli.specs.Outcome.{IsReplayed, cut_off, unplayed}
 use Rattle.swsusp_cli.specs.Playing.{HasPlayed}
-use Rattle.command_kit.specs.Told.{IsTold}
-use Rattle.command_kit.specs.View.{DiskView, SinkView}
-use Rattle.command_kit.specs.declared.status.Status.TheVariants.{Done, Memory}
-use Rattle.swsusp_cli.proofs.Causes.{blameless, done_cause, memory_cause, since_text, stop_cause, stream_cause, told_cause}
-use Rattle.swsusp_cli.proofs.Replays.{not_set_up, replies_of, risen_of, played_whole}
-use Rattle.swsusp_cli.proofs.Inputs.{without_script}
+use Rattle.swsusp_cli.proofs.Begun.{begun_by, cause_begun, replies_begun, script_begun, since_begun}
+use Rattle.swsusp_cli.proofs.Causes.{blameless, done_cause, since_text, stream_cause}
+use Rattle.swsusp_cli.proofs.Prints.{told_as}
+use Rattle.swsusp_cli.proofs.Replays.{played_whole}
 use Rattle.swsusp_cli.proofs.replay.replay.Goals as goal
 
 pub returns-in-Err-clause-outcome : goal.returns-in-Err-clause-outcome
-returns-in-Err-clause-outcome g c = without_script _ _ _ c.tell.result c.in-Err.stop c.in-Err.ensures.ready c.tell.ensures.told refl (λ e. c.in-Err.ensures.stream (ap Err e)) no_script out_of_memory unread
-
-pub returns-in-Err-create-clause-outcome : goal.returns-in-Err-create-clause-outcome
-returns-in-Err-create-clause-outcome g c =
-    let tell = c.tell-in-Err-create in
-    let out : SinkView = record { taken = g.O.Sink.taken c.args.out.now; flushed = g.O.Sink.flushed c.args.out.now; faults = g.O.Sink.faults c.args.out.now } in
-    let note : SinkView = record { taken = g.N.Sink.taken c.args.note.now; flushed = g.N.Sink.flushed c.args.note.now; faults = g.N.Sink.faults c.args.note.now } in
-    let before : DiskView = record { blocks = g.D.Disk.block_count c.args.disk.now; content = g.D.Disk.content c.args.disk.now; faults = g.D.Disk.faults c.args.disk.now; calls = g.D.Disk.calls c.args.disk.now; orders = g.D.Disk.orders c.args.disk.now } in
-    out_of_memory (record {
-      told = subst (λ (t : RunResult). IsTold t tell.result out (record { taken = g.O.Sink.taken tell.new.out; flushed = g.O.Sink.flushed tell.new.out; faults = g.O.Sink.faults tell.new.out }) note (record { taken = g.N.Sink.taken tell.new.note; flushed = g.N.Sink.flushed tell.new.note; faults = g.N.Sink.faults tell.new.note })) c.no_memory.ensures.told tell.ensures.told;
-      untouched = refl {a = before};
-    })
-
-pub returns-in-Err-set_up-clause-outcome : goal.returns-in-Err-set_up-clause-outcome
-returns-in-Err-set_up-clause-outcome g c =
-    let tell = c.tell-in-Err-set_up in
-    let out : SinkView = record { taken = g.O.Sink.taken c.args.out.now; flushed = g.O.Sink.flushed c.args.out.now; faults = g.O.Sink.faults c.args.out.now } in
-    let note : SinkView = record { taken = g.N.Sink.taken c.args.note.now; flushed = g.N.Sink.flushed c.args.note.now; faults = g.N.Sink.faults c.args.note.now } in
-    not_set_up _ _ tell.result c.in-Ok.script c.in-Err-set_up.why (record { says = c.in-Ok.ensures.ready.0; over = c.in-Ok.ensures.ready.1; few = c.in-Ok.ensures.few }) c.in-Err-set_up.ensures.outcome
-    (subst (λ (t : RunResult). IsTold t tell.result out (record { taken = g.O.Sink.taken tell.new.out; flushed = g.O.Sink.flushed tell.new.out; faults = g.O.Sink.faults tell.new.out }) note (record { taken = g.N.Sink.taken tell.new.note; flushed = g.N.Sink.flushed tell.new.note; faults = g.N.Sink.faults tell.new.note })) c.answer.ensures.told tell.ensures.told)
+returns-in-Err-clause-outcome g c = unplayed c.in-Err.ensures.outcome
 
 pub returns-in-Ok-play-clause-outcome : goal.returns-in-Ok-play-clause-outcome
 returns-in-Ok-play-clause-outcome g c =
-    let tell = c.tell-in-Ok-play in
-    let out : SinkView = record { taken = g.O.Sink.taken c.play.new.out; flushed = g.O.Sink.flushed c.play.new.out; faults = g.O.Sink.faults c.play.new.out } in
-    let note : SinkView = record { taken = g.N.Sink.taken c.args.note.now; flushed = g.N.Sink.flushed c.args.note.now; faults = g.N.Sink.faults c.args.note.now } in
-    let script = c.in-Ok.script in
-    let set = c.in-Ok-set_up.ensures.outcome in
-    let new = subst (λ (h : Hardware). IsNewWorld h None c.in-Ok-create.world) c.hardware.ensures c.in-Ok-create.ensures in
-    let before : DiskView = record { blocks = g.D.Disk.block_count c.args.disk.now; content = g.D.Disk.content c.args.disk.now; faults = g.D.Disk.faults c.args.disk.now; calls = g.D.Disk.calls c.args.disk.now; orders = g.D.Disk.orders c.args.disk.now } in
-    let between : DiskView = record { blocks = g.D.Disk.block_count c.set_up.new.disk; content = g.D.Disk.content c.set_up.new.disk; faults = g.D.Disk.faults c.set_up.new.disk; calls = g.D.Disk.calls c.set_up.new.disk; orders = g.D.Disk.orders c.set_up.new.disk } in
-    let now : DiskView = record { blocks = g.D.Disk.block_count c.play.new.disk; content = g.D.Disk.content c.play.new.disk; faults = g.D.Disk.faults c.play.new.disk; calls = g.D.Disk.calls c.play.new.disk; orders = g.D.Disk.orders c.play.new.disk } in
+    let script = c.in-Ok.begun.0 in
+    let begun = begun_by c.deref_mut.ensures.value c.in-Ok.ensures.outcome in
+    let now = disk_view g.D.Disk c.play.new.disk in
     let rs = c.in-Ok-play.ensures.played.0 in
-    let was = subst (λ (events : List Event). HasPlayed c.in-Ok-create.world c.play.new.world events rs between now) c.events.ensures c.in-Ok-play.ensures.played.1 in
-    let replies = replies_of script c.in-Ok-create.world c.play.new.world script.events rs before between now
-    (g.met.D.Disk.well_formed c.args.disk.now) (g.met.D.Disk.well_formed c.set_up.new.disk) set new c.in-Ok.ensures.few_bad was c.play.ensures.hardware in
-    played_whole _ _ tell.result script out rs (record { says = c.in-Ok.ensures.ready.0; over = c.in-Ok.ensures.ready.1; few = c.in-Ok.ensures.few }) set.roomy replies c.in-Ok-play.ensures.played.2 c.play.ensures.stream_faults
-    (subst (λ (t : RunResult). IsTold t tell.result out (record { taken = g.O.Sink.taken tell.new.out; flushed = g.O.Sink.flushed tell.new.out; faults = g.O.Sink.faults tell.new.out }) note (record { taken = g.N.Sink.taken tell.new.note; flushed = g.N.Sink.flushed tell.new.note; faults = g.N.Sink.faults tell.new.note })) c.done.ensures.told tell.ensures.told)
+    let was = subst (λ (events : List Event). HasPlayed c.deref_mut.result.now c.play.new.world events rs (disk_view g.D.Disk c.begin.new.disk) now) c.events.ensures c.in-Ok-play.ensures.played.1 in
+    let replies = replies_begun begun c.play.new.world script.events rs now (g.met.D.Disk.well_formed c.args.disk.now) (g.met.D.Disk.well_formed c.begin.new.disk) was c.play.ensures.hardware in
+    let after : View = view g.I.Source g.O.Sink g.N.Sink g.D.Disk c.begin.new.input c.tell.new.out c.tell.new.note c.play.new.disk in
+    since_begun begun (λ (x : View). IsReplayed x after c.tell.result)
+    (played_whole _ _ c.tell.result script (sink_view g.O.Sink c.play.new.out) rs (script_begun begun _ refl) begun.set_up.roomy replies c.in-Ok-play.ensures.played.2 c.play.ensures.stream_faults
+    (told_as c.done.ensures.told c.tell.ensures.told))
 
 pub returns-clause-outcome : goal.returns-clause-outcome
 returns-clause-outcome g c =
-    let script = c.in-Ok.script in
-    let set = c.in-Ok-set_up.ensures.outcome in
-    let new = subst (λ (h : Hardware). IsNewWorld h None c.in-Ok-create.world) c.hardware.ensures c.in-Ok-create.ensures in
-    let before : DiskView = record { blocks = g.D.Disk.block_count c.args.disk.now; content = g.D.Disk.content c.args.disk.now; faults = g.D.Disk.faults c.args.disk.now; calls = g.D.Disk.calls c.args.disk.now; orders = g.D.Disk.orders c.args.disk.now } in
-    let between : DiskView = record { blocks = g.D.Disk.block_count c.set_up.new.disk; content = g.D.Disk.content c.set_up.new.disk; faults = g.D.Disk.faults c.set_up.new.disk; calls = g.D.Disk.calls c.set_up.new.disk; orders = g.D.Disk.orders c.set_up.new.disk } in
-    let now : DiskView = record { blocks = g.D.Disk.block_count c.play.new.disk; content = g.D.Disk.content c.play.new.disk; faults = g.D.Disk.faults c.play.new.disk; calls = g.D.Disk.calls c.play.new.disk; orders = g.D.Disk.orders c.play.new.disk } in
+    let script = c.in-Ok.begun.0 in
+    let begun = begun_by c.deref_mut.ensures.value c.in-Ok.ensures.outcome in
+    let now = disk_view g.D.Disk c.play.new.disk in
     let k = c.in-Err-play.ensures.played.0 in
     let rs = c.in-Err-play.ensures.played.1 in
-    let was = subst (λ (events : List Event). HasPlayed c.in-Ok-create.world c.play.new.world (take k events) rs between now) c.events.ensures c.in-Err-play.ensures.played.2 in
-    let replies = replies_of script c.in-Ok-create.world c.play.new.world (take k script.events) rs before between now
-    (g.met.D.Disk.well_formed c.args.disk.now) (g.met.D.Disk.well_formed c.set_up.new.disk) set new c.in-Ok.ensures.few_bad was c.play.ensures.hardware in
-    cut_off script (record {
-      script_is = record { says = c.in-Ok.ensures.ready.0; over = c.in-Ok.ensures.ready.1; few = c.in-Ok.ensures.few };
-      roomy = set.roomy;
+    let was = subst (λ (events : List Event). HasPlayed c.deref_mut.result.now c.play.new.world (take k events) rs (disk_view g.D.Disk c.begin.new.disk) now) c.events.ensures c.in-Err-play.ensures.played.2 in
+    let replies = replies_begun begun c.play.new.world (take k script.events) rs now (g.met.D.Disk.well_formed c.args.disk.now) (g.met.D.Disk.well_formed c.begin.new.disk) was c.play.ensures.hardware in
+    let after : View = view g.I.Source g.O.Sink g.N.Sink g.D.Disk c.begin.new.input c.play.new.out c.cut_off.new.note c.play.new.disk in
+    since_begun begun (λ (x : View). IsReplayed x after c.cut_off.result) (cut_off script (record {
+      script_is = script_begun begun _ refl;
+      roomy = begun.set_up.roomy;
       status_is = c.cut_off.ensures.status;
       prints = (k, rs, replies, c.in-Err-play.ensures.played.3);
       whose = inl c.in-Err-play.ensures.stream;
       note = c.cut_off.ensures.note;
-    })
+    }))
 
 pub returns-in-Err-clause-cause : goal.returns-in-Err-clause-cause
-returns-in-Err-clause-cause g c = stop_cause c.tell.result c.tell.ensures.cause (λ e. c.in-Err.ensures.stream (ap Err e))
-
-pub returns-in-Err-create-clause-cause : goal.returns-in-Err-create-clause-cause
-returns-in-Err-create-clause-cause g c = blameless c.tell-in-Err-create.result c.no_memory.result.status Memory memory_cause c.no_memory.ensures.status (λ is. inr (c.tell-in-Err-create.ensures.stream is)) c.tell-in-Err-create.ensures.status
-
-pub returns-in-Err-set_up-clause-cause : goal.returns-in-Err-set_up-clause-cause
-returns-in-Err-set_up-clause-cause g c = told_cause c.tell-in-Err-set_up.result c.answer.result.status (λ is. inr (c.tell-in-Err-set_up.ensures.stream is)) c.tell-in-Err-set_up.ensures.status c.answer.ensures.cause (risen_of c.in-Ok.script _ _ c.in-Err-set_up.why c.in-Err-set_up.ensures.outcome)
+returns-in-Err-clause-cause g c = c.in-Err.ensures.cause
 
 pub returns-in-Ok-play-clause-cause : goal.returns-in-Ok-play-clause-cause
-returns-in-Ok-play-clause-cause g c = blameless c.tell-in-Ok-play.result c.done.result.status Done done_cause c.done.ensures.status (λ is. since_text _ _ _ c.play.ensures.stream_faults (c.tell-in-Ok-play.ensures.stream is)) c.tell-in-Ok-play.ensures.status
+returns-in-Ok-play-clause-cause g c =
+    cause_begun c.in-Ok.ensures.outcome
+    (blameless c.tell.result c.done.result.status Done done_cause c.done.ensures.status (λ is. since_text _ _ _ c.play.ensures.stream_faults (c.tell.ensures.stream is)) c.tell.ensures.status)
 
 pub returns-clause-cause : goal.returns-clause-cause
-returns-clause-cause g c = stream_cause c.cut_off.result c.cut_off.ensures.status (inr (inl c.in-Err-play.ensures.stream))
+returns-clause-cause g c =
+    cause_begun c.in-Ok.ensures.outcome
+    (stream_cause c.cut_off.result c.cut_off.ensures.status (inr (inl c.in-Err-play.ensures.stream)))

@@ -7,7 +7,7 @@ use Rattle.swsusp_words.specs.Words.{command_of}
 use Rattle.command_kit.proofs.Causes.{cause_since}
 use Rattle.swsusp_cli.proofs.Causes.{blameless, memory_cause, told_cause}
 use Rattle.swsusp_cli.proofs.Drilled.{drill_flushed}
-use Rattle.swsusp_cli.proofs.Prints.{exports_flushed, hibernates_flushed, imports_flushed, replay_flushed, resumes_flushed, told_flushed}
+use Rattle.swsusp_cli.proofs.Prints.{exports_flushed, hibernates_flushed, imports_flushed, replay_flushed, resumes_flushed}
 use Rattle.swsusp_cli.proofs.Promised.{answer_caused, caused, memory_does, memory_safe, promised, words_caused}
 use Rattle.swsusp_cli.proofs.top.run.Goals as goal
 
