@@ -76,43 +76,11 @@ value_of f = value_by f (value_in (fact_text f))
 
 -- the array that a fact is an item of, if there may be many of its kind
 abbrev pub array_of : Fact → Option Array
-array_of (fact.Blocks n) = None
-array_of fact.HeaderMissing = None
-array_of fact.HeaderUnread = None
-array_of (fact.Image marked) = None
-array_of fact.AreaSwap = None
-array_of fact.AreaOld = None
-array_of fact.AreaImage = None
-array_of (fact.AreaOther sig) = None
-array_of (fact.AreaBad why) = None
-array_of (fact.LastPage n) = None
-array_of (fact.BadPages n) = None
 array_of (fact.BadPage n) = Some BadPages
-array_of (fact.Uuid bytes) = None
-array_of (fact.Label bytes) = None
-array_of (fact.FirstMap n) = None
-array_of (fact.Flags n) = None
 array_of (fact.Flag f) = Some Flags
-array_of (fact.HwSig n) = None
-array_of (fact.Crc32 n) = None
-array_of (fact.Header h) = None
-array_of (fact.Name key bytes) = None
-array_of (fact.VersionCode n) = None
-array_of (fact.Kernel a b c) = None
-array_of (fact.JumpAddress n) = None
-array_of (fact.JumpAddressPhysical n) = None
-array_of (fact.Cr3 n) = None
-array_of (fact.MemoryMapChecksum n) = None
-array_of (fact.KernelVersion bytes) = None
-array_of (fact.MemoryPages n) = None
-array_of (fact.ImagePages n) = None
-array_of (fact.StreamPages n) = None
 array_of (fact.BlockRun start count) = Some BlockRuns
-array_of (fact.Maps n) = None
-array_of (fact.Units n) = None
-array_of (fact.CompressedBytes n) = None
-array_of (fact.ExpandedBytes n) = None
 array_of (fact.FrameRun start count) = Some FrameRuns
+array_of _ = None
 
 -- the place of an array among the four
 abbrev pub place_of : Array → ℕ
