@@ -90,13 +90,6 @@ impl Load {
         })
     }
 
-    /// Returns the loader of the resume in progress, or of the last one.
-    pub fn loader(&self) -> Loader
-        ensures { result ≡ self.now.loader }
-    {
-        self.loader
-    }
-
     /// Returns whether a step is left, and what the machine does if none is.
     pub fn phase(&self) -> Phase
         ensures { result ≡ phase_of self.now }

@@ -10,7 +10,7 @@ use Rattle.world_core.specs.StandsFor.{hardware_of, blocks_of}
 use Rattle.world_core.specs.StepsLeft.{steps_left}
 use Rattle.world_core.specs.World.{World}
 
--- Whichever way the step's call of the disk ends: it is a step of the plain machine, it says whether an image exists and
+-- Whichever way its call of the disk ends, it is a step of the plain machine, it says whether an image exists and
 -- restores one where it should, and it leaves fewer steps to make.
 pub record HasStepped (old new : World) (r : Reply) (before now : Option Content) : Type 0 where
   pub row : SimulatesWhereTold (event.Step actor.Core) old new r before now
