@@ -18,6 +18,7 @@ use world_core::World;
 
 /// Reads a script, makes its machine, and formats the area that it names at the block of its first slot. Where one of
 /// these fails it prints why, and returns the status that the command ends with.
+#[inline(never)]
 pub fn begin<I: Source, O: Sink, N: Sink, D: Disk>(
     alloc: Global,
     input: &mut I,
@@ -52,8 +53,10 @@ pub fn begin<I: Source, O: Sink, N: Sink, D: Disk>(
 fn new_world(alloc: Global, hw: &Hardware) -> Result<Box<World>, NoMemory>
     ensures { IfOk result (λ world. IsNewWorld hw.now None world.value) }
 {
-    let world = World::create(alloc, *hw)?;
-    boxed(alloc, world)
+    match World::create(alloc, *hw) {
+        Ok(world) => boxed(alloc, world),
+        Err(NoMemory) => Err(NoMemory),
+    }
 }
 
 /// Boxes a machine. It has a frame of its own, since the error of `Box::new` would give the machine back.
