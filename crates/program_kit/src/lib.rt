@@ -1,10 +1,13 @@
-//! What the programs do alike around their commands: the words that they are given, the swap file that they open, and
-//! how they end.
+//! What the programs do alike around their commands: the words that they are given, the swap file that they open, the
+//! disk that shows a waiting user how much of it was read and written, and how they end.
 #![tactic(auto)]
+
+mod progress;
 
 use byte_streams::{Held, StdSink, hold, is_output, sync_output};
 use command_kit::{Status, print, tell};
 use file_disk::FileDisk;
+pub use progress::{Meter, ProgressDisk};
 use std::fs::File;
 use std::process::ExitCode;
 use std::{env, io};

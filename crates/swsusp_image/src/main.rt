@@ -13,10 +13,9 @@ use image_machine_cli::{loader, machine};
 use image_words::{Area, Command, Form, Unparsed};
 use loader_words::Asked;
 use program_kit::{
-    NOT_OPENED, after_quiet, ended, finished, no_memory, open_to_read, open_to_write, show_help,
-    sink_fault, words_of,
+    Meter, NOT_OPENED, ProgressDisk, after_quiet, ended, finished, no_memory, open_to_read,
+    open_to_write, show_help, sink_fault, words_of,
 };
-use progress_disk::{Meter, ProgressDisk};
 use std::fs::File;
 use std::io::{self, IsTerminal};
 use std::process::ExitCode;

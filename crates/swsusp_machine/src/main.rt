@@ -10,10 +10,9 @@ use machine_words::{Command, Unparsed};
 use page_core::NoMemory;
 use plain_machine::IdentCheck;
 use program_kit::{
-    NOT_OPENED, after_quiet, ended, finished, no_memory, open_to_read, show_help, sink_fault,
-    words_of,
+    Meter, NOT_OPENED, ProgressDisk, after_quiet, ended, finished, no_memory, open_to_read,
+    show_help, sink_fault, words_of,
 };
-use progress_disk::{Meter, ProgressDisk};
 use sector_disk::MemDisk;
 use std::fs::File;
 use std::io;

@@ -1,5 +1,4 @@
 //! A disk that shows a waiting user how much of it was read and written.
-#![tactic(auto)]
 
 mod meter;
 mod progress_disk;

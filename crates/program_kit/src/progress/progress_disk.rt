@@ -1,4 +1,4 @@
-use crate::meter::Meter;
+use crate::progress::meter::Meter;
 use page_core::{Failed, Page};
 use sector_disk::Disk;
 
