@@ -1,6 +1,8 @@
-//! The commands of `swsusp_image` that make dumps of an image's machine.
+//! The commands of `swsusp_image` and `swsusp_machine` that make dumps: of the machine of an image, and of that of a
+//! core file.
 #![tactic(auto)]
 
+mod cores;
 mod dumping;
 mod limits;
 mod loading;
@@ -8,6 +10,6 @@ mod making;
 mod telling;
 mod wanted;
 
-pub use limits::limit_line;
+pub use cores::from_core;
 pub use loading::{loader, machine};
 pub use wanted::Wanted;

@@ -6,7 +6,7 @@ use image_machine::Limit;
 use machine::HardFault;
 
 /// Returns the line that says which limit is violated.
-pub fn limit_line(limit: &Limit) -> Line
+pub(crate) fn limit_line(limit: &Limit) -> Line
     ensures { result ≡ limit_line limit.now }
 {
     let mut line = Line::new();

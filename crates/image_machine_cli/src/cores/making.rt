@@ -4,14 +4,14 @@ ghost use Rattle.command_kit.specs.Causes.{HasCause};
 ghost use Rattle.command_kit.specs.View.{sink_view};
 ghost use Rattle.command_kit.specs.Told.{IsTold};
 ghost use Rattle.core_machine.specs.declared.stop.Stop.TheVariants as stop;
-ghost use Rattle.core_machine_cli.specs.Given.{GivesOfCore, IsWhyTold};
+ghost use Rattle.image_machine_cli.specs.Given.{GivesOfCore, IsWhyTold};
 ghost use Rattle.image_machine_cli.specs.Loads.{refused};
 
-use crate::faults::fault_line;
+use crate::cores::faults::fault_line;
+use crate::limits::limit_line;
 use byte_streams::{Line, Sink, Source};
 use command_kit::{Status, no_memory, tell};
 use core_machine::{Stop, machine_of_core};
-use image_machine_cli::limit_line;
 use std::alloc::Global;
 use swsusp_cli::{Stop as InputStop, tell_dump};
 

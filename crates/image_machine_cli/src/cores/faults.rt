@@ -1,5 +1,5 @@
 ghost use Rattle.std.specs.Prelude.{◌≡◌, ◌≤◌, ◌+◌, ◌++◌, length, codes, decimal};
-ghost use Rattle.core_machine_cli.specs.FaultLines.{fault_line};
+ghost use Rattle.image_machine_cli.specs.FaultLines.{fault_line};
 
 use byte_streams::Line;
 use core_machine::segments::Fault;

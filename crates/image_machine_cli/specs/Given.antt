@@ -13,7 +13,7 @@ use Rattle.image_machine_cli.specs.Loads.{refused}
 use Rattle.machine.specs.declared.dump.Dump.{Dump}
 use Rattle.swsusp_cli.specs.Loads.{written_told}
 use Rattle.swsusp_cli.specs.Replay.{unread_note}
-use Rattle.core_machine_cli.specs.FaultLines.{fault_line}
+use Rattle.image_machine_cli.specs.FaultLines.{fault_line}
 
 -- If the source failed, one note is attempted, and `out` isn't called; every other cause is printed as an answer.
 abbrev pub IsWhyTold : Stop → Status → (out out' note note' : SinkView) → Type 0

@@ -3,11 +3,11 @@ use Rattle.command_kit.specs.Told.{RunResult}
 use Rattle.command_kit.specs.Told.{IsTold}
 use Rattle.command_kit.specs.View.{sink_view}
 use Rattle.core_machine.specs.declared.stop.Stop.{Stop}
-use Rattle.core_machine_cli.specs.Given.{IsWhyTold}
+use Rattle.image_machine_cli.specs.Given.{IsWhyTold}
 use Rattle.image_machine_cli.specs.Loads.{refused}
 use Rattle.command_kit.specs.declared.status.Status.TheVariants.{Refused, Memory}
 use Rattle.swsusp_cli.proofs.Causes.{blameless, memory_cause, refused_cause, stop_cause}
-use Rattle.core_machine_cli.proofs.making.tell_why.Goals as goal
+use Rattle.image_machine_cli.proofs.cores.making.tell_why.Goals as goal
 
 pub returns-in-Limit-clause-told : goal.returns-in-Limit-clause-told
 returns-in-Limit-clause-told g c =

@@ -1,8 +1,8 @@
 use Rattle.std.proofs.Common.{inr, refl}
 use Rattle.command_kit.specs.declared.status.Status.TheVariants.{Done}
 use Rattle.swsusp_cli.proofs.Causes.{blameless, done_cause, stop_cause}
-use Rattle.core_machine_cli.specs.Given.{made, none}
-use Rattle.core_machine_cli.proofs.making.from_core.Goals as goal
+use Rattle.image_machine_cli.specs.Given.{made, none}
+use Rattle.image_machine_cli.proofs.cores.making.from_core.Goals as goal
 
 pub returns-in-Ok-clause-outcome : goal.returns-in-Ok-clause-outcome
 returns-in-Ok-clause-outcome g c = made c.in-Ok.dump c.in-Ok.ensures.dump c.tell_dump.ensures.told

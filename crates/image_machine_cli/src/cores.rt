@@ -1,5 +1,4 @@
 //! The command of `swsusp_machine` that makes a dump from a core file.
-#![tactic(auto)]
 
 mod faults;
 mod making;
