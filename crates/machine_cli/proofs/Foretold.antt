@@ -2,7 +2,7 @@
 use Rattle.std.proofs.Common.{◌≡◌, ◌≤◌, ℕ, ◌+◌, subst, sym, arith}
 use Rattle.definitions.specs.Disk as disk
 use Rattle.command_core.specs.declared.ending.Ended.{Ended}
-use Rattle.dry_resume.specs.Foretold.{Foretells}
+use Rattle.machine_cli.specs.Foretold.{Foretells}
 use Rattle.plain_machine.specs.Chain.{Marked}
 use Rattle.plain_machine.specs.Machine.{Hardware, Memory}
 use Rattle.plain_machine.specs.UsableArea.{HasOriginal}

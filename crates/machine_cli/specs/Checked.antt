@@ -2,7 +2,7 @@
 use Rattle.std.specs.Prelude.{◌≡◌, ◌≤◌, ◌+◌, Some, if◌then◌else◌}
 use Rattle.definitions.specs.Disk as disk
 use Rattle.command_core.specs.declared.ending.Ended.{Ended}
-use Rattle.dry_resume.specs.Foretold.{Foretells}
+use Rattle.machine_cli.specs.Foretold.{Foretells}
 use Rattle.dump_file.specs.Dump.{DumpValue}
 use Rattle.dump_file.specs.declared.dump.DumpFault.{DumpFault}
 use Rattle.plain_machine.specs.Chain.{Marked}

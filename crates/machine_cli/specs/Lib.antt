@@ -5,3 +5,4 @@ pub mod Drawn
 pub mod Freshened
 pub mod Made
 pub mod Shown
+pub mod Foretold

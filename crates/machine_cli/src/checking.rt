@@ -5,10 +5,10 @@ ghost use Rattle.swsusp_cli.specs.Causes.{HasCauseIn};
 ghost use Rattle.command_kit.specs.Causes.{HasCause};
 ghost use Rattle.command_kit.specs.View.{view};
 
+use crate::dry::would_resume;
 use byte_streams::{Sink, Source};
 use command_core::Ended;
 use command_kit::{Answer, Status, no_memory};
-use dry_resume::would_resume;
 use page_core::NoMemory;
 use plain_machine::{IdentCheck, Reply};
 use sector_disk::Disk;

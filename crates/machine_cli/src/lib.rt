@@ -5,6 +5,7 @@ mod checking;
 mod coring;
 mod differing;
 mod drawing;
+mod dry;
 mod loading;
 mod making;
 mod showing;

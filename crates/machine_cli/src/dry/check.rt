@@ -4,7 +4,7 @@ ghost use Rattle.plain_machine.specs.Chain.{Marked};
 ghost use Rattle.plain_machine.specs.UsableArea.{HasOriginal};
 ghost use Rattle.world_core.specs.StandsFor.{IsNewWorld, hardware_of};
 ghost use Rattle.overlay_disk.specs.DiskState.{IsSame};
-ghost use Rattle.dry_resume.specs.Foretold.{Foretells};
+ghost use Rattle.machine_cli.specs.Foretold.{Foretells};
 
 use command_core::{Ended, resume};
 use overlay_disk::{Lent, Original, Overlay, ReadOnly};

@@ -7,7 +7,7 @@ use Rattle.command_laws.specs.Resumptions.{HasResumed}
 use Rattle.command_core.specs.declared.ending.Ended.{Ended}
 use Rattle.overlay_disk.specs.DiskState.{DiskState}
 use Rattle.overlay_disk.specs.Overlaid.{content_over}
-use Rattle.dry_resume.specs.Foretold.{Foretells}
+use Rattle.machine_cli.specs.Foretold.{Foretells}
 
 -- what a new overlay holds: the disk below as it reads
 pub told_over : (over : Option disk.Content) (below original : DiskState) (c : disk.Content) → over ≡ content_over None below.content → below ≡ original → original.content ≡ Some c → over ≡ Some (disk.settled (disk.as_it_reads c))

@@ -1,5 +1,4 @@
 //! What a resume would answer, over a disk that is only read.
-#![tactic(auto)]
 
 mod check;
 

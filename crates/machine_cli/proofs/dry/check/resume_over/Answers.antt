@@ -2,8 +2,8 @@ use Rattle.std.proofs.Common.{arith}
 use Rattle.definitions.specs.Disk.{as_it_reads}
 use Rattle.world_core.specs.StandsFor.{hardware_of, shown}
 use Rattle.command_laws.proofs.Resumed.{has_resumed}
-use Rattle.dry_resume.proofs.Foretelling.{told_over, foretells}
-use Rattle.dry_resume.proofs.check.resume_over.Goals as goal
+use Rattle.machine_cli.proofs.Foretelling.{told_over, foretells}
+use Rattle.machine_cli.proofs.dry.check.resume_over.Goals as goal
 
 pub returns-in-Ok-clause-resumed : goal.returns-in-Ok-clause-resumed
 returns-in-Ok-clause-resumed g c = λ held told original.

@@ -1,4 +1,4 @@
-use Rattle.dry_resume.proofs.check.would_resume.Given as goal
+use Rattle.machine_cli.proofs.dry.check.would_resume.Given as goal
 
 abbrev pub ghosts-resume_over : goal.ghosts-resume_over
 ghosts-resume_over g a = record {
