@@ -5,3 +5,7 @@ pub mod Shown
 pub mod Stopping
 pub mod Summing
 pub mod Telling
+pub mod Blocks
+pub mod Crashes
+pub mod Comparing
+pub mod Running

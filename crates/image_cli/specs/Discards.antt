@@ -6,11 +6,11 @@ use Rattle.command_kit.specs.Told.{IsTold}
 use Rattle.command_kit.specs.View.{SinkView}
 use Rattle.command_kit.specs.declared.status.Status.{Status}
 use Rattle.command_kit.specs.declared.status.Status.TheVariants.{Done, Refused, Device}
-use Rattle.image_discard.specs.Discards.{Ends, Fails}
-use Rattle.image_discard.specs.declared.discarding.Discarded.{Discarded}
-use Rattle.image_discard.specs.declared.discarding.Discarded.TheVariants as discarded
-use Rattle.image_discard.specs.declared.discarding.Fault.{Fault}
-use Rattle.image_discard.specs.declared.discarding.Fault.TheVariants as fault
+use Rattle.image_cli.specs.Unmarks.{Ends, Fails}
+use Rattle.image_cli.specs.declared.unmarking.discarding.Discarded.{Discarded}
+use Rattle.image_cli.specs.declared.unmarking.discarding.Discarded.TheVariants as discarded
+use Rattle.image_cli.specs.declared.unmarking.discarding.Fault.{Fault}
+use Rattle.image_cli.specs.declared.unmarking.discarding.Fault.TheVariants as fault
 
 -- what became of the image
 abbrev pub discard_told : Result Discarded Fault → RunResult

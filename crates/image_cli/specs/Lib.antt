@@ -9,3 +9,9 @@ pub mod Pages
 pub mod Printed
 pub mod Shows
 pub mod Streams
+pub mod Crashes
+pub mod Unmarks
+pub mod ExpandedChecks
+pub mod ExpandedDiffers
+pub mod Runs
+pub mod ExpandedStreams

@@ -3,13 +3,13 @@ ghost use Rattle.definitions.specs.Disk.{DiskImage, HasRisen};
 ghost use Rattle.command_kit.specs.AnswerOf.{told_by};
 ghost use Rattle.command_kit.specs.Causes.{HasCause, SinksFail};
 ghost use Rattle.command_kit.specs.View.{sink_view};
-ghost use Rattle.image_discard.specs.Crashes.{IsCrash};
-ghost use Rattle.image_discard.specs.Discards.{LeavesNoImage};
+ghost use Rattle.image_cli.specs.Crashes.{IsCrash};
+ghost use Rattle.image_cli.specs.Unmarks.{LeavesNoImage};
 ghost use Rattle.image_cli.specs.Discards.{Discards, discard_told};
 
+use crate::unmarking::{Discarded, Fault};
 use byte_streams::{Line, Sink};
 use command_kit::{Answer, Status};
-use image_discard::{Discarded, Fault};
 use sector_disk::Disk;
 
 /// Takes back the mark of the area whose header lies in block `header`, and prints what became of the image.
@@ -34,7 +34,7 @@ pub fn discard<D: Disk, O: Sink, N: Sink>(
     ensures orders { D.orders disk.new ≡ D.orders disk.old }
     ensures blocks { D.block_count disk.new ≡ D.block_count disk.old }
 {
-    let outcome = image_discard::discard(disk, header);
+    let outcome = crate::unmarking::discard(disk, header);
     told_of(&outcome).tell(out, note)
 }
 

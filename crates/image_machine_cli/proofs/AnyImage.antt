@@ -14,8 +14,8 @@ use Rattle.expanded_disk.specs.Index.{IsIndexed}
 use Rattle.expanded_disk.specs.Opens.{IsNotCompressed}
 use Rattle.expanded_disk.specs.declared.units.index.Index.{Index}
 use Rattle.expanded_disk.specs.Laid.{blocks_for, expanded}
-use Rattle.expanded_cli.specs.Runs.{plain, unpacked}
-use Rattle.expanded_cli.proofs.Running.{Alike}
+use Rattle.image_cli.specs.Runs.{plain, unpacked}
+use Rattle.image_cli.proofs.Running.{Alike}
 use Rattle.image_dump.specs.Headings.{HasNoArea, HasNoMark}
 use Rattle.image_dump.specs.Heads.{Heads}
 use Rattle.image_dump.specs.declared.headed.Headed.{Headed}

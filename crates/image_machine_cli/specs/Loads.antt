@@ -11,8 +11,8 @@ use Rattle.image_check.specs.Told.{Told}
 use Rattle.image_cli.specs.Notes.{IsNoted}
 use Rattle.image_machine.specs.declared.heading.Layout.{Layout}
 use Rattle.expanded_disk.specs.declared.units.index.Index.{Index}
-use Rattle.expanded_cli.specs.Runs.{RunsAny, RunsExpanded}
-use Rattle.expanded_cli.specs.Streams.{NotesFindings, NotesMemory}
+use Rattle.image_cli.specs.Runs.{RunsAny, RunsExpanded}
+use Rattle.image_cli.specs.ExpandedStreams.{NotesFindings, NotesMemory}
 use Rattle.image_dump.specs.declared.made.Made.{Made}
 use Rattle.image_dump.specs.declared.made.Made.TheVariants.{NoImage, Refused, NoArea, Limit, Dump}
 use Rattle.swsusp_cli.specs.Loads.{written_told}

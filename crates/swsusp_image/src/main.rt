@@ -3,9 +3,9 @@
 
 use byte_streams::{Held, StdSink};
 use command_kit::Status;
-use expanded_cli::{check, check_json, core, differ, page, stream};
 use file_disk::FileDisk;
 use image_check::Printer;
+use image_cli::expanded::{check, check_json, core, differ, page, stream};
 use image_cli::{discard, show, show_json};
 use image_differ::Side;
 use image_machine::Layout;

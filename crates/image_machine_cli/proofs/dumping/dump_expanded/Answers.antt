@@ -5,9 +5,9 @@ use Rattle.command_kit.specs.View.{sink_view}
 use Rattle.image_cli.specs.Printed.{printer_view}
 use Rattle.image_cli.proofs.Causes.{memory_cause}
 use Rattle.expanded_disk.specs.Keeps.{FailsWith}
-use Rattle.expanded_cli.specs.Runs.{lacks}
-use Rattle.expanded_cli.specs.Streams.{NotesMemory}
-use Rattle.expanded_cli.proofs.Running.{over_expanded}
+use Rattle.image_cli.specs.Runs.{lacks}
+use Rattle.image_cli.specs.ExpandedStreams.{NotesMemory}
+use Rattle.image_cli.proofs.Running.{over_expanded}
 use Rattle.image_machine_cli.specs.Loads.{GivesFrom}
 use Rattle.image_machine_cli.proofs.dumping.dump_expanded.Goals as goal
 

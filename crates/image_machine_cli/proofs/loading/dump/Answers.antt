@@ -5,9 +5,9 @@ use Rattle.command_kit.specs.View.{sink_view}
 use Rattle.command_kit.proofs.OnlyRead.{read_on}
 use Rattle.image_cli.specs.Printed.{printer_view}
 use Rattle.image_cli.proofs.Causes.{cause_later, memory_cause}
-use Rattle.expanded_cli.specs.Runs.{refused}
-use Rattle.expanded_cli.specs.Streams.{NotesFindings, NotesMemory}
-use Rattle.expanded_cli.proofs.Running.{index_at, memory_since, opened_plain, opened_refused, opened_whole, plainly, same_faults, unpacks}
+use Rattle.image_cli.specs.Runs.{refused}
+use Rattle.image_cli.specs.ExpandedStreams.{NotesFindings, NotesMemory}
+use Rattle.image_cli.proofs.Running.{index_at, memory_since, opened_plain, opened_refused, opened_whole, plainly, same_faults, unpacks}
 use Rattle.image_dump.specs.Headings.{IsHeadingOf}
 use Rattle.image_dump.specs.declared.headed.Headed.TheVariants.{NoImage, NoArea, Heading}
 use Rattle.image_machine_cli.specs.Loads.{GivesDump, GivesFrom}

@@ -1,4 +1,0 @@
-pub mod Checks
-pub mod Differs
-pub mod Runs
-pub mod Streams

@@ -1,0 +1,13 @@
+use Rattle.image_cli.proofs.expanded.commands.run.Given as goal
+
+abbrev pub ghosts-run_expanded : goal.ghosts-run_expanded
+ghosts-run_expanded g a = record {
+  state = record {
+    which = a.below.disk.ghost_name;
+    blocks = g.D.Disk.block_count a.below.disk.now;
+    content = g.D.Disk.content a.below.disk.now;
+    faults = g.D.Disk.faults a.below.disk.now;
+    calls = g.D.Disk.calls a.below.disk.now;
+    orders = g.D.Disk.orders a.below.disk.now;
+  };
+}

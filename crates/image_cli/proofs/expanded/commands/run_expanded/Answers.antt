@@ -1,0 +1,41 @@
+use Rattle.std.proofs.Common.{◌∙◌, sym, refl, subst}
+use Rattle.command_kit.specs.Told.{RunResult}
+use Rattle.command_kit.specs.Told.{IsTold}
+use Rattle.command_kit.specs.View.{sink_view}
+use Rattle.image_cli.specs.Printed.{printer_view}
+use Rattle.image_cli.proofs.Causes.{memory_cause}
+use Rattle.expanded_disk.specs.Keeps.{FailsWith}
+use Rattle.image_cli.specs.Runs.{lacks}
+use Rattle.image_cli.specs.ExpandedStreams.{NotesMemory}
+use Rattle.image_cli.proofs.Running.{over_expanded}
+use Rattle.image_cli.proofs.expanded.commands.run_expanded.Goals as goal
+
+pub returns-in-Ok-clause-outcome : goal.returns-in-Ok-clause-outcome
+returns-in-Ok-clause-outcome g c =
+    let does = g.C.Command.does c.args.command.now in
+    let state = g.K.Original.state in
+    let told = printer_view g.N.Sink c.args.note.now in
+    let out = sink_view g.O.Sink c.args.out.now in
+    let last = sink_view g.O.Sink c.run-status.new.out in
+    let noted = sink_view g.N.Sink c.run-status.new.note.sink in
+    let status = c.run-status.result in
+    over_expanded (λ c n h b f. does c n h b f told status out last noted) (NotesMemory told status out last noted)
+    state.content _ c.args.image.header _ _ _ state.faults (g.B.ReadOnly.state c.into_below.result).faults c.args.image.index
+    c.in-Ok.ensures.content c.in-Ok.ensures.blocks c.in-Ok.ensures.faults
+    (subst (λ below. FailsWith state.content state.faults (g.B.ReadOnly.state below).faults c.run-status.new.disk.faults) (sym c.into_below.ensures.below)
+    (c.into_source.ensures.cause c.args.image.header (c.run-status.ensures.disk.content ∙ c.in-Ok.ensures.content) (c.run-status.ensures.disk.orders ∙ c.in-Ok.ensures.orders)))
+    c.run-status.ensures.outcome
+
+pub returns-in-Err-clause-outcome : goal.returns-in-Err-clause-outcome
+returns-in-Err-clause-outcome g c =
+    let noted = sink_view g.N.Sink c.args.note.now.sink in
+    lacks (record {
+      noted = noted;
+      is_noted = record { text = refl; faults = refl };
+      ends = subst (λ (r : RunResult). IsTold r c.tell-status.result (sink_view g.O.Sink c.args.out.now) (sink_view g.O.Sink c.tell-status.new.out) noted (sink_view g.N.Sink c.tell-status.new.note))
+          c.no_memory.ensures.told c.tell-status.ensures.told;
+    })
+
+pub returns-in-Err-clause-cause : goal.returns-in-Err-clause-cause
+returns-in-Err-clause-cause g c =
+    memory_cause c.no_memory.result.status c.tell-status.result c.no_memory.ensures.status c.tell-status.ensures.stream c.tell-status.ensures.status
