@@ -11,7 +11,7 @@ use Rattle.swsusp_cli.specs.Outcome.{Tells, small_told, unformatted_told}
 use Rattle.world_runs.specs.Turns.{AreCounted}
 use Rattle.swsusp_cli.specs.SettingUp.{IsNotSetUp, unready_told}
 use Rattle.command_kit.specs.View.{View}
-use Rattle.swsusp_words.specs.Words.{Asked, drill}
+use Rattle.command_words.specs.Words.{Asked, drill}
 use Rattle.swsusp_cli.specs.declared.setting_up.Unready.{Unready}
 use Rattle.swsusp_cli.specs.declared.setting_up.Unready.TheVariants.{Small, Unformatted as NotFormatted}
 use Rattle.command_kit.specs.declared.status.Status.{Status}

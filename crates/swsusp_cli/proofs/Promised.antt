@@ -11,7 +11,7 @@ use Rattle.swsusp_cli.specs.Causes.{HasCauseIn}
 use Rattle.swsusp_cli.specs.Outcome.{Tells}
 use Rattle.swsusp_cli.specs.Outcome.{HandsOutAtMost}
 use Rattle.swsusp_cli.specs.Theorem.{Does, IsJustified, IsSafe, Promise}
-use Rattle.swsusp_words.specs.Words.{Asked, command_of, inspect, hibernate, resume, replay, drill, export, import}
+use Rattle.command_words.specs.Words.{Asked, command_of, inspect, hibernate, resume, replay, drill, export, import}
 use Rattle.swsusp_cli.proofs.Answered.{memory_drills, memory_exports, memory_hibernates, memory_imports, memory_replays, memory_resumes}
 use Rattle.swsusp_cli.proofs.Causes.{own_status}
 use Rattle.swsusp_cli.proofs.Crashed.{inside_none}

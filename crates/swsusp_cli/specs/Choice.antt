@@ -2,7 +2,7 @@
 use Rattle.std.specs.Prelude.{◌≡◌, ◌⊎◌, ℕ, List, Option, Some, None, string_bytes}
 use Rattle.swsusp_cli.specs.declared.choosing.Choice.{Choice}
 use Rattle.swsusp_cli.specs.declared.choosing.Choice.TheVariants.{File, Memory}
-use Rattle.swsusp_words.specs.Words.{Asked, inspect, hibernate, resume, replay, drill, export, import, command_of}
+use Rattle.command_words.specs.Words.{Asked, inspect, hibernate, resume, replay, drill, export, import, command_of}
 
 -- the file that a command works on
 abbrev pub file_of : Asked → Option (List ℕ)

@@ -17,7 +17,7 @@ use Rattle.swsusp_cli.specs.Loads.{Resumes}
 use Rattle.swsusp_cli.specs.Outcome.{IsReplayed}
 use Rattle.swsusp_cli.specs.Outcome.{HandsOutAtMost}
 use Rattle.swsusp_cli.specs.Run.{Inspects, Refuses}
-use Rattle.swsusp_words.specs.Words.{Asked, command_of, inspect, hibernate, resume, replay, drill, export, import}
+use Rattle.command_words.specs.Words.{Asked, command_of, inspect, hibernate, resume, replay, drill, export, import}
 
 -- What is done and printed, by what the words ask for and the view of the outside before and after. Nothing is read but
 -- a script, up to one byte past the largest, a dump or a stream.

@@ -1,9 +1,9 @@
 ghost use Rattle.std.specs.Prelude.{IfOk, map, string_bytes};
 ghost use Rattle.swsusp_cli.specs.Choice.{IsChoice, IsFile};
 
+use command_words::swsusp::{Command, Unparsed};
 use page_core::NoMemory;
 use std::alloc::Global;
-use swsusp_words::{Command, Unparsed};
 
 /// Which disk a run works on.
 #[derive(Drop)]

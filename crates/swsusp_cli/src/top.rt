@@ -14,9 +14,9 @@ use crate::replay::replay;
 use crate::resuming::resume_dump;
 use byte_streams::{Sink, Source};
 use command_kit::{Status, no_memory, tell};
+use command_words::swsusp::{Command, Unparsed};
 use sector_disk::Disk;
 use std::alloc::Global;
-use swsusp_words::{Command, Unparsed};
 
 /// Runs the program over its words, the first of which is its name.
 pub fn run<I: Source, O: Sink, N: Sink, D: Disk>(

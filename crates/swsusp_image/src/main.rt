@@ -3,6 +3,8 @@
 
 use byte_streams::{Held, StdSink};
 use command_kit::Status;
+use command_words::loader::Asked;
+use command_words::swsusp_image::{Area, Command, Form, Unparsed};
 use file_disk::FileDisk;
 use image_check::Printer;
 use image_cli::expanded::{check, check_json, core, differ, page, stream};
@@ -10,8 +12,6 @@ use image_cli::{discard, show, show_json};
 use image_differ::Side;
 use image_machine::Layout;
 use image_machine_cli::{loader, machine};
-use image_words::{Area, Command, Form, Unparsed};
-use loader_words::Asked;
 use program_kit::{
     Meter, NOT_OPENED, ProgressDisk, after_quiet, ended, finished, no_memory, open_to_read,
     open_to_write, show_help, sink_fault, words_of,
@@ -26,7 +26,7 @@ fn main(rt: HostRuntime) -> ExitCode {
         Err(code) => return code,
     };
     let (words, quiet) = after_quiet(&words);
-    if let Some(asked) = loader_words::parse(words) {
+    if let Some(asked) = command_words::loader::parse(words) {
         return if rt.stdout().is_terminal() {
             sink_fault(&rt)
         } else {
@@ -172,8 +172,14 @@ fn make_dump(rt: &HostRuntime, asked: &Asked<'_>, quiet: bool) -> ExitCode {
     let mut out = StdSink::new(rt.stdout());
     let mut note = Printer::new(StdSink::new(rt.stderr()));
     let status = match asked.wanted {
-        loader_words::Wanted::Loader => loader(rt.alloc(), &mut disk, &layout, &mut out, &mut note),
-        loader_words::Wanted::Machine(tables) => machine(
+        command_words::loader::Wanted::Loader => loader(
+            rt.alloc(),
+            &mut disk,
+            &layout,
+            &mut out,
+            &mut note,
+        ),
+        command_words::loader::Wanted::Machine(tables) => machine(
             rt.alloc(),
             &mut disk,
             &layout,

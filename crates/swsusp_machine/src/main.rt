@@ -3,10 +3,10 @@
 
 use byte_streams::{StdSink, StdSource, hold};
 use command_kit::Status;
+use command_words::swsusp_machine::{Command, Unparsed};
 use file_disk::{FileDisk, first_map_beyond};
 use image_machine_cli::from_core;
 use machine_cli::{check, core, differ, draw, loader, make, show_facts};
-use machine_words::{Command, Unparsed};
 use page_core::NoMemory;
 use plain_machine::IdentCheck;
 use program_kit::{

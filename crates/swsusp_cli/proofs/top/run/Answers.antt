@@ -3,7 +3,7 @@ use Rattle.command_kit.specs.Told.{memory_told, unparsed}
 use Rattle.command_kit.specs.AnswerOf.{told_by}
 use Rattle.command_kit.specs.View.{View, disk_view, view}
 use Rattle.command_kit.specs.declared.status.Status.TheVariants.{Memory}
-use Rattle.swsusp_words.specs.Words.{command_of}
+use Rattle.command_words.specs.Words.{command_of}
 use Rattle.command_kit.proofs.Causes.{cause_since}
 use Rattle.swsusp_cli.proofs.Causes.{blameless, memory_cause, told_cause}
 use Rattle.swsusp_cli.proofs.Drilled.{drill_flushed}

@@ -1,8 +1,0 @@
-//! The command lines of `swsusp_image loader` and `swsusp_image machine`, whose options may be repeated.
-#![tactic(auto)]
-
-mod asked;
-mod numbers;
-mod options;
-
-pub use asked::{Asked, Wanted, parse};

@@ -1,4 +1,0 @@
-pub mod Forms
-pub mod Getters
-pub mod Parsing
-pub mod Taken

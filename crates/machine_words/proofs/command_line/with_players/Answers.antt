@@ -1,8 +1,0 @@
-use Rattle.clap.specs.Words.{with_subcommand}
-use Rattle.machine_words.specs.App.{draw_app, make_app}
-use Rattle.machine_words.proofs.command_line.with_players.Goals as goal
-
-pub returns : goal.returns
-returns c = λ app is.
-    let one = c.with_command-program.ensures app make_app is c.making.ensures in
-    c.with_command.ensures (with_subcommand app make_app.top) draw_app one c.drawing.ensures

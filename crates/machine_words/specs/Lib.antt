@@ -1,6 +1,0 @@
-pub mod App
-pub mod Asked
-pub mod Matched
-pub mod Refused
-pub mod Spelled
-pub mod Words
