@@ -5,3 +5,11 @@ pub mod Loaders
 pub mod Machines
 pub mod Plans
 pub mod Rows
+pub mod Adds
+pub mod Begins
+pub mod Headings
+pub mod Heads
+pub mod Lays
+pub mod Makes
+pub mod Loaded
+pub mod Resumable

@@ -16,10 +16,10 @@ use Rattle.expanded_disk.specs.declared.units.index.Index.{Index}
 use Rattle.expanded_disk.specs.Laid.{blocks_for, expanded}
 use Rattle.image_cli.specs.Runs.{plain, unpacked}
 use Rattle.image_cli.proofs.Running.{Alike}
-use Rattle.image_dump.specs.Headings.{HasNoArea, HasNoMark}
-use Rattle.image_dump.specs.Heads.{Heads}
-use Rattle.image_dump.specs.declared.headed.Headed.{Headed}
-use Rattle.image_dump.specs.declared.made.Made.TheVariants.{NoImage, NoArea}
+use Rattle.image_machine.specs.Headings.{HasNoArea, HasNoMark}
+use Rattle.image_machine.specs.Heads.{Heads}
+use Rattle.image_machine.specs.declared.dump.headed.Headed.{Headed}
+use Rattle.image_machine.specs.declared.dump.made.Made.TheVariants.{NoImage, NoArea}
 use Rattle.image_machine_cli.specs.Loads.{GivesDump, GivesFrom, made, made_told}
 use Rattle.image_machine_cli.specs.Makes.{MakesWanted}
 use Rattle.image_machine_cli.specs.declared.wanted.Wanted.{Wanted}

@@ -4,10 +4,10 @@ use Rattle.definitions.specs.Disk.{Content}
 use Rattle.definitions.specs.Zones.{top}
 use Rattle.image_check.specs.Told.{Told}
 use Rattle.image_machine.specs.declared.heading.Layout.{Layout}
-use Rattle.image_dump.specs.Headings.{HasNoArea}
-use Rattle.image_dump.specs.Makes.{HasLimit, HasMachineLimit, IsLoaderFrom, IsMachineFrom, MakesBy}
-use Rattle.image_dump.specs.declared.made.Made.{Made}
-use Rattle.image_dump.specs.declared.made.Made.TheVariants.{NoImage, Refused, NoArea, Limit, Dump}
+use Rattle.image_machine.specs.Headings.{HasNoArea}
+use Rattle.image_machine.specs.Makes.{HasLimit, HasMachineLimit, IsLoaderFrom, IsMachineFrom, MakesBy}
+use Rattle.image_machine.specs.declared.dump.made.Made.{Made}
+use Rattle.image_machine.specs.declared.dump.made.Made.TheVariants.{NoImage, Refused, NoArea, Limit, Dump}
 use Rattle.image_machine.specs.declared.limit.Limit.{Limit as OneLimit}
 use Rattle.machine.specs.declared.dump.Dump.{Dump as MachineDump}
 use Rattle.image_machine_cli.specs.Loads.{HasFrames}

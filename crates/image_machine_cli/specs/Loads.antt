@@ -13,8 +13,8 @@ use Rattle.image_machine.specs.declared.heading.Layout.{Layout}
 use Rattle.expanded_disk.specs.declared.units.index.Index.{Index}
 use Rattle.image_cli.specs.Runs.{RunsAny, RunsExpanded}
 use Rattle.image_cli.specs.ExpandedStreams.{NotesFindings, NotesMemory}
-use Rattle.image_dump.specs.declared.made.Made.{Made}
-use Rattle.image_dump.specs.declared.made.Made.TheVariants.{NoImage, Refused, NoArea, Limit, Dump}
+use Rattle.image_machine.specs.declared.dump.made.Made.{Made}
+use Rattle.image_machine.specs.declared.dump.made.Made.TheVariants.{NoImage, Refused, NoArea, Limit, Dump}
 use Rattle.swsusp_cli.specs.Loads.{written_told}
 use Rattle.image_machine_cli.specs.LimitLines.{limit_line}
 use Rattle.image_machine_cli.specs.Makes.{MakesWanted}

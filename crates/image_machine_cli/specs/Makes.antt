@@ -3,8 +3,8 @@ use Rattle.std.specs.Prelude.{ℕ, Option}
 use Rattle.definitions.specs.Disk.{Content}
 use Rattle.image_check.specs.Told.{Told}
 use Rattle.image_machine.specs.declared.heading.Layout.{Layout}
-use Rattle.image_dump.specs.Makes.{MakesFrom, MakesMachineFrom}
-use Rattle.image_dump.specs.declared.made.Made.{Made}
+use Rattle.image_machine.specs.Makes.{MakesFrom, MakesMachineFrom}
+use Rattle.image_machine.specs.declared.dump.made.Made.{Made}
 use Rattle.image_machine_cli.specs.declared.wanted.Wanted.{Wanted}
 use Rattle.image_machine_cli.specs.declared.wanted.Wanted.TheVariants.{Loader, Saved}
 

@@ -6,7 +6,7 @@ ghost use Rattle.command_kit.specs.View.{sink_view};
 ghost use Rattle.overlay_disk.specs.DiskState.{IsSame};
 ghost use Rattle.image_cli.specs.Printed.{printer_view};
 ghost use Rattle.expanded_disk.specs.Keeps.{HasIndex};
-ghost use Rattle.image_dump.specs.Headings.{IsHeadingOf};
+ghost use Rattle.image_machine.specs.Headings.{IsHeadingOf};
 ghost use Rattle.image_machine_cli.specs.Loads.{GivesExpanded, GivesFrom};
 
 use crate::making::{make_from, make_plain};
@@ -16,8 +16,7 @@ use byte_streams::Sink;
 use command_kit::{Status, no_memory};
 use expanded_disk::{ExpandedDisk, Index, Source, Walks};
 use image_check::Printer;
-use image_dump::Asked;
-use image_machine::Layout;
+use image_machine::{Asked, Layout};
 use overlay_disk::Original;
 use page_core::NoMemory;
 use sector_disk::Disk;

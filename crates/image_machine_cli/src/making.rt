@@ -1,13 +1,12 @@
 ghost use Rattle.std.specs.Prelude.{◌≡◌, Option, IfOk, OnErr};
 ghost use Rattle.definitions.specs.Disk.{Content};
 ghost use Rattle.command_kit.specs.OnlyRead.{IsOnlyRead};
-ghost use Rattle.image_dump.specs.Headings.{IsHeadingOf};
+ghost use Rattle.image_machine.specs.Headings.{IsHeadingOf};
 ghost use Rattle.image_machine_cli.specs.Makes.{MakesWanted};
 
 use crate::wanted::Wanted;
 use image_check::Report;
-use image_dump::{Asked, Made, loader_from, loader_of, machine_from, machine_of};
-use image_machine::Layout;
+use image_machine::{Asked, Layout, Made, loader_from, loader_of, machine_from, machine_of};
 use page_core::NoMemory;
 use sector_disk::Disk;
 use std::alloc::Global;

@@ -6,7 +6,7 @@ ghost use Rattle.image_machine_cli.specs.Loads.{HasFrames, made_told};
 use crate::limits::limit_line;
 use byte_streams::Sink;
 use command_kit::{Status, tell};
-use image_dump::Made;
+use image_machine::Made;
 use swsusp_cli::tell_dump;
 
 /// Prints what was made of an image.

@@ -8,8 +8,8 @@ use Rattle.image_cli.proofs.Causes.{cause_later, memory_cause}
 use Rattle.image_cli.specs.Runs.{refused}
 use Rattle.image_cli.specs.ExpandedStreams.{NotesFindings, NotesMemory}
 use Rattle.image_cli.proofs.Running.{index_at, memory_since, opened_plain, opened_refused, opened_whole, plainly, same_faults, unpacks}
-use Rattle.image_dump.specs.Headings.{IsHeadingOf}
-use Rattle.image_dump.specs.declared.headed.Headed.TheVariants.{NoImage, NoArea, Heading}
+use Rattle.image_machine.specs.Headings.{IsHeadingOf}
+use Rattle.image_machine.specs.declared.dump.headed.Headed.TheVariants.{NoImage, NoArea, Heading}
 use Rattle.image_machine_cli.specs.Loads.{GivesDump, GivesFrom}
 use Rattle.image_machine_cli.proofs.AnyImage.{gives_since, heads_area, no_area_any, no_image_any}
 use Rattle.image_machine_cli.proofs.loading.dump.Goals as goal

@@ -1,7 +1,7 @@
 use Rattle.std.proofs.Common.{sym, subst}
 use Rattle.command_kit.specs.Told.{IsTold}
 use Rattle.command_kit.specs.View.{sink_view}
-use Rattle.image_dump.specs.declared.made.Made.{Made}
+use Rattle.image_machine.specs.declared.dump.made.Made.{Made}
 use Rattle.image_machine_cli.specs.Loads.{made_told}
 use Rattle.image_machine_cli.proofs.telling.tell_made.Goals as goal
 

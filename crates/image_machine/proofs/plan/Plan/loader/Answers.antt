@@ -1,7 +1,7 @@
 use Rattle.std.proofs.Common.{◌≤◌, ℕ, length, subst}
 use Rattle.plain_machine.specs.Loader.{need}
 use Rattle.plain_machine.specs.Machine.{unused}
-use Rattle.image_machine.proofs.Made.{made}
+use Rattle.image_machine.proofs.PlanMade.{made}
 use Rattle.image_machine.proofs.plan.Plan.loader.Goals as goal
 
 pub returns-clause-loader : goal.returns-clause-loader

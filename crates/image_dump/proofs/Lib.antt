@@ -1,4 +1,0 @@
-pub mod Given
-pub mod Laid
-pub mod Making
-pub mod Since
