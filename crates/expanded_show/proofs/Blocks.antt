@@ -10,10 +10,10 @@ use Rattle.definitions.specs.Bytes.{word}
 use Rattle.definitions.specs.Disk.{Content, DiskImage, HasRisen, as_it_reads, block}
 use Rattle.definitions.specs.FreeRuns.{runs_of}
 use Rattle.plain_machine.specs.Chain.{map_block}
-use Rattle.image_facts.specs.Runs.{IsUpTo, list_of}
-use Rattle.image_facts.specs.Told.{block_run}
-use Rattle.image_facts.specs.declared.fact.Fact.{Fact}
-use Rattle.image_facts.specs.declared.fact.Fact.TheVariants as fact
+use Rattle.image_show.specs.Runs.{IsUpTo, list_of}
+use Rattle.image_show.specs.Told.{block_run}
+use Rattle.image_show.specs.declared.facts.fact.Fact.{Fact}
+use Rattle.image_show.specs.declared.facts.fact.Fact.TheVariants as fact
 use Rattle.expanded_disk.specs.Units.{units_of}
 use Rattle.expanded_disk.specs.declared.units.index.Index.{Index}
 use Rattle.expanded_disk.proofs.Loads.{IsIndexIn}

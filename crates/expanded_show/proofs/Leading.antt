@@ -1,8 +1,8 @@
 -- From what is shown of a plain image to what is shown of one that may be compressed.
 use Rattle.std.proofs.Common.{◌≡◌, ℕ, ◌≤◌, List, Option, IfSome, flat_map, sym, subst, ◌∙◌}
 use Rattle.definitions.specs.Disk.{Content, as_it_reads}
-use Rattle.image_facts.specs.HeaderFacts.{header_facts}
-use Rattle.image_facts.specs.declared.fact.Fact.{Fact}
+use Rattle.image_show.specs.HeaderFacts.{header_facts}
+use Rattle.image_show.specs.declared.facts.fact.Fact.{Fact}
 use Rattle.expanded_disk.specs.Index.{IsIndexed}
 use Rattle.expanded_disk.specs.declared.units.index.Index.{Index}
 use Rattle.expanded_disk.specs.Keeps.{FailsWith, HasIndex}

@@ -1,7 +1,7 @@
 -- Facts that are printed in a style in which others stand for them.
 use Rattle.std.proofs.Common.{◌≡◌, ℕ, List, [], ◌∷◌, ◌++◌, Option, flat_map, refl, sym, ap, subst, ◌∙◌, append-nil, append_assoc}
 use Rattle.definitions.specs.Streams.{TakesAll, TakesFront}
-use Rattle.image_facts.specs.declared.fact.Fact.{Fact}
+use Rattle.image_show.specs.declared.facts.fact.Fact.{Fact}
 use Rattle.image_show.specs.Forms.{Puts, PutsFront, Style, Written, kept_after, pieces}
 use Rattle.expanded_show.specs.Standing.{over_style, standing, standing_by, topic_of}
 use Rattle.expanded_show.specs.declared.topic.Topic.{Topic}

@@ -7,10 +7,10 @@ use Rattle.definitions.specs.Disk.{Content, DiskImage, HasRisen, as_it_reads, bl
 use Rattle.definitions.specs.FreeRuns.{runs_of}
 use Rattle.definitions.specs.SwapMap.{map_entry}
 use Rattle.plain_machine.specs.Chain.{map_block}
-use Rattle.image_facts.specs.Runs.{IsUpTo}
-use Rattle.image_facts.specs.Told.{block_run}
-use Rattle.image_facts.specs.declared.fact.Fact.{Fact}
-use Rattle.image_facts.specs.declared.fact.Fact.TheVariants as fact
+use Rattle.image_show.specs.Runs.{IsUpTo}
+use Rattle.image_show.specs.Told.{block_run}
+use Rattle.image_show.specs.declared.facts.fact.Fact.{Fact}
+use Rattle.image_show.specs.declared.facts.fact.Fact.TheVariants as fact
 use Rattle.expanded_disk.specs.Names.{chain_of}
 use Rattle.expanded_disk.specs.Units.{start_of, units_of}
 use Rattle.expanded_disk.specs.declared.units.index.Index.{Index}

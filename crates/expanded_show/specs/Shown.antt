@@ -2,8 +2,8 @@
 use Rattle.std.specs.Prelude.{◌≡◌, ℕ, ◌≤◌, ◌⊎◌, List, flat_map, Option, IfSome}
 use Rattle.definitions.specs.Disk.{Content, as_it_reads}
 use Rattle.image_check.specs.declared.finding.Finding.{Finding}
-use Rattle.image_facts.specs.HeaderFacts.{header_facts}
-use Rattle.image_facts.specs.declared.fact.Fact.{Fact}
+use Rattle.image_show.specs.HeaderFacts.{header_facts}
+use Rattle.image_show.specs.declared.facts.fact.Fact.{Fact}
 use Rattle.image_show.specs.Shown.{Shows, ShowsFront}
 use Rattle.image_show.specs.declared.shown.Shown.{Shown}
 use Rattle.expanded_disk.specs.Index.{IsIndexed}

@@ -1,7 +1,7 @@
 -- What replaces a fact of a disk that expands an image when the facts of its area are shown.
 use Rattle.std.specs.Prelude.{List, [], ◌∷◌}
-use Rattle.image_facts.specs.declared.fact.Fact.{Fact}
-use Rattle.image_facts.specs.declared.fact.Fact.TheVariants as fact
+use Rattle.image_show.specs.declared.facts.fact.Fact.{Fact}
+use Rattle.image_show.specs.declared.facts.fact.Fact.TheVariants as fact
 use Rattle.image_show.specs.Forms.{Style, kept_after, pieces}
 use Rattle.expanded_show.specs.declared.topic.Topic.{Topic}
 use Rattle.expanded_show.specs.declared.topic.Topic.TheVariants.{Disk, Place, Maps, Image}

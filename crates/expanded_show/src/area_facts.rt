@@ -1,5 +1,5 @@
 ghost use Rattle.std.specs.Prelude.{[], List, ℕ};
-ghost use Rattle.image_facts.specs.declared.fact.Fact.{Fact as OneFact};
+ghost use Rattle.image_show.specs.declared.facts.fact.Fact.{Fact as OneFact};
 
 use std::marker::Brand;
 

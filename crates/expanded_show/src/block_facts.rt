@@ -10,7 +10,7 @@ ghost use Rattle.expanded_show.specs.Blocks.{AreAreaFacts, AreBlockFacts, FailsT
 
 use crate::gathered::{Gathered, push};
 use expanded_disk::{Index, units_of};
-use image_facts::Fact;
+use image_show::Fact;
 use page_core::{Failed, NoMemory, Page};
 use sector_disk::Disk;
 use std::alloc::Global;

@@ -3,11 +3,11 @@ ghost use Rattle.std.specs.Prelude.{◌≡◌, ◌+◌, ◌<◌, ◌≤◌, ◌^
 ghost use Rattle.std.specs.List.{range_with_len};
 ghost use Rattle.definitions.specs.Bytes.{word};
 ghost use Rattle.definitions.specs.FreeRuns.{runs_of};
-ghost use Rattle.image_facts.specs.Runs.{count_of};
-ghost use Rattle.image_facts.specs.Told.{block_run};
-ghost use Rattle.image_facts.specs.declared.fact.Fact.TheVariants.{Maps};
+ghost use Rattle.image_show.specs.Runs.{count_of};
+ghost use Rattle.image_show.specs.Told.{block_run};
+ghost use Rattle.image_show.specs.declared.facts.fact.Fact.TheVariants.{Maps};
 
-use image_facts::{Fact, Runs};
+use image_show::{Fact, Runs};
 use page_core::{NoMemory, Page};
 use std::alloc::Global;
 

@@ -5,8 +5,7 @@ ghost use Rattle.expanded_show.specs.Standing.{over_style, standing};
 
 use crate::area_facts::AreaFacts;
 use crate::topic::{Topic, topic_of};
-use image_facts::Fact;
-use image_show::Form;
+use image_show::{Fact, Form};
 use page_core::Failed;
 use std::marker::PhantomData;
 

@@ -1,6 +1,6 @@
 ghost use Rattle.std.specs.Prelude.{◌≡◌, ◌≤◌, List, Err, IfOk, OnErr, flat_map};
-ghost use Rattle.image_facts.specs.HeaderFacts.{header_facts};
-ghost use Rattle.image_facts.specs.declared.fact.Fact.{Fact as OneFact};
+ghost use Rattle.image_show.specs.HeaderFacts.{header_facts};
+ghost use Rattle.image_show.specs.declared.facts.fact.Fact.{Fact as OneFact};
 ghost use Rattle.image_show.specs.Forms.{HasFailed, Puts, PutsFront};
 ghost use Rattle.image_show.specs.Shown.{Shows, ShowsFront};
 ghost use Rattle.image_show.specs.declared.fault.Fault.TheVariants.{NoMemory as LacksMemory, Write};
@@ -15,8 +15,7 @@ use crate::image_form::{ImageForm, LentForm};
 use byte_streams::MemSink;
 use expanded_disk::{ExpandedDisk, Index, Opened, Source, Walks, open};
 use image_check::Printer;
-use image_facts::{Fact, header_facts};
-use image_show::{Fault, Form, Shown};
+use image_show::{Fact, Fault, Form, Shown, header_facts};
 use overlay_disk::{Lent, Original};
 use page_core::NoMemory;
 use sector_disk::Disk;

@@ -1,7 +1,7 @@
 ghost use Rattle.std.specs.Prelude.{◌≡◌};
 ghost use Rattle.expanded_show.specs.Standing.{topic_of};
 
-use image_facts::Fact;
+use image_show::Fact;
 
 /// The topic of a fact of a disk that expands an image.
 #[derive(Clone, Copy)]

@@ -1,7 +1,7 @@
 -- What a form of lines prints.
 use Rattle.std.proofs.Common.{◌≡◌, ◌⊎◌, ℕ, false, true, List, [], ◌∷◌, ◌++◌, Option, None, refl, ap, inl, inr}
 use Rattle.definitions.specs.Disk.{HasRisen}
-use Rattle.image_facts.specs.declared.fact.Fact.{Fact}
+use Rattle.image_show.specs.declared.facts.fact.Fact.{Fact}
 use Rattle.image_show.specs.Forms.{pieces}
 use Rattle.image_show.specs.Texts.{line_text, lines, text_of}
 

@@ -10,7 +10,7 @@ use Rattle.command_kit.specs.declared.status.Status.TheVariants.{Done, Refused}
 use Rattle.image_check.specs.Checked.{Finds}
 use Rattle.image_check.specs.declared.finding.Finding.{Finding}
 use Rattle.expanded_show.specs.Shown.{ShowsAll}
-use Rattle.image_facts.specs.declared.fact.Fact.{Fact}
+use Rattle.image_show.specs.declared.facts.fact.Fact.{Fact}
 use Rattle.image_json.specs.Findings.{found_line, found_whole}
 use Rattle.image_json.specs.Objects.{object_line}
 use Rattle.image_json.specs.declared.checking.Checked.{Checked}

@@ -7,7 +7,7 @@ use Rattle.command_kit.specs.View.{SinkView}
 use Rattle.command_kit.specs.declared.status.Status.{Status}
 use Rattle.command_kit.specs.declared.status.Status.TheVariants.{Done, Refused, Stream}
 use Rattle.expanded_show.specs.Shown.{ShowsAll, ShowsNoMore}
-use Rattle.image_facts.specs.declared.fact.Fact.{Fact}
+use Rattle.image_show.specs.declared.facts.fact.Fact.{Fact}
 use Rattle.image_show.specs.Texts.{text_of}
 use Rattle.image_show.specs.declared.shown.Shown.{Shown}
 use Rattle.image_show.specs.declared.shown.Shown.TheVariants.{Area, NoHeader}

@@ -5,7 +5,7 @@ use Rattle.std.proofs.lemmas.List.FromFn.{length-map-range_with_len}
 use Rattle.definitions.specs.Disk.{Content, as_it_reads}
 use Rattle.definitions.specs.FreeRuns.{runs_of}
 use Rattle.image_check.specs.Info.{counts_in}
-use Rattle.image_facts.specs.Runs.{list_of}
+use Rattle.image_show.specs.Runs.{list_of}
 use Rattle.image_pages.specs.Chain.{chain_page}
 use Rattle.image_pages.specs.Formats.{chain_format}
 use Rattle.image_pages.specs.Saved.{count_in, number_in}

@@ -4,7 +4,7 @@ use Rattle.definitions.specs.FreeRuns.{runs_of}
 use Rattle.definitions.specs.Streams.{TakesAll, TakesFront}
 use Rattle.byte_streams.proofs.Taken.{TakesAll-both, TakesAll-none, TakesFront-all, TakesFront-first, TakesFront-second}
 use Rattle.elf_core.specs.Elf.{load_bytes, loads_bytes}
-use Rattle.image_facts.specs.Runs.{IsUpTo, count_of, list_of}
+use Rattle.image_show.specs.Runs.{IsUpTo, count_of, list_of}
 use Rattle.image_core.specs.Listed.{AreListed, CanList, IsListFront, frames_in}
 use Rattle.image_core.specs.Runs.{HasEnded}
 use Rattle.image_core.specs.declared.counter.RunCounter.{RunCounter}

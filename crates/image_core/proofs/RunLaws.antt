@@ -6,8 +6,8 @@ use Rattle.std.proofs.Math.Seq.{get_or-append_seam}
 use Rattle.std.proofs.lemmas.List.Sums.{sum_by-append, sum_by-cons}
 use Rattle.definitions.specs.FreeRuns.{in_front, runs_of}
 use Rattle.elf_core.specs.Elf.{load_bytes, loads_bytes}
-use Rattle.image_facts.specs.Runs.{IsUpTo, list_of}
-use Rattle.image_facts.proofs.RunLaws.{up_to_first, up_to_joined, up_to_parted}
+use Rattle.image_show.specs.Runs.{IsUpTo, list_of}
+use Rattle.image_show.proofs.RunLaws.{up_to_first, up_to_joined, up_to_parted}
 use Rattle.image_core.specs.Listed.{frames_in}
 
 joins : (s : ℕ) (run : ℕ × ℕ) (runs : List (ℕ × ℕ)) → run.0 ≡ s + 1 → in_front s (run ∷ runs) ≡ (s, run.1 + 1) ∷ runs

@@ -1,6 +1,6 @@
 -- Runs of numbers that are counted.
 use Rattle.std.specs.Prelude.{◌≡◌, ℕ, List, length}
-use Rattle.image_facts.specs.Runs.{IsUpTo}
+use Rattle.image_show.specs.Runs.{IsUpTo}
 use Rattle.image_core.specs.declared.counter.RunCounter.{RunCounter}
 
 -- these runs of the numbers have ended; the last one may go on

@@ -1,9 +1,9 @@
 ghost use Rattle.std.specs.Prelude.{◌≡◌, ◌<◌, ℕ, List, [], ◌∷◌, ◌++◌, length};
 ghost use Rattle.definitions.specs.FreeRuns.{runs_of};
-ghost use Rattle.image_facts.specs.Runs.{list_of};
+ghost use Rattle.image_show.specs.Runs.{list_of};
 ghost use Rattle.image_core.specs.Runs.{HasEnded};
 
-use image_facts::Runs;
+use image_show::Runs;
 
 /// Collects numbers that come one after another into runs, and counts the runs.
 #[derive(Clone, Copy)]

@@ -3,7 +3,7 @@ use Rattle.std.proofs.Common.{◌≡◌, ℕ, List, [], ◌∷◌, ◌++◌, len
 use Rattle.std.proofs.lemmas.List.{take_all}
 use Rattle.definitions.specs.Streams.{TakesAll, TakesFront}
 use Rattle.byte_streams.proofs.Taken.{taken_is}
-use Rattle.image_facts.specs.declared.fact.Fact.{Fact}
+use Rattle.image_show.specs.declared.facts.fact.Fact.{Fact}
 use Rattle.image_show.specs.Forms.{kept_after, pieces, Puts, Written}
 use Rattle.image_json.specs.Objects.{object_line}
 use Rattle.image_json.specs.Pieces.{closing, members, piece}

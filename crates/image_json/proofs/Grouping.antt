@@ -4,7 +4,7 @@ use Rattle.json.specs.Print.{quoted}
 use Rattle.serde_json.specs.Data.{Data}
 use Rattle.serde_json.specs.View.{items_of}
 use Rattle.serde_json.specs.Written.{comma_if, compact_text, items_text, members_text}
-use Rattle.image_facts.specs.declared.fact.Fact.{Fact}
+use Rattle.image_show.specs.declared.facts.fact.Fact.{Fact}
 use Rattle.image_show.specs.Forms.{kept_after, pieces}
 use Rattle.image_json.specs.Objects.{grouped, members_of, object_line, with_fact, Group}
 use Rattle.image_json.specs.Pieces.{closing, members, piece}

@@ -2,7 +2,7 @@
 use Rattle.std.specs.Prelude.{ℕ, Bool, false, List, ◌++◌, codes, is_some, if◌then◌else◌, Option, Some, None}
 use Rattle.json.specs.Print.{quoted}
 use Rattle.serde_json.specs.Written.{compact_text}
-use Rattle.image_facts.specs.declared.fact.Fact.{Fact}
+use Rattle.image_show.specs.declared.facts.fact.Fact.{Fact}
 use Rattle.image_show.specs.Forms.{Style}
 use Rattle.image_json.specs.Values.{array_of, is_same, key_of, value_of}
 

@@ -3,8 +3,8 @@ use Rattle.std.specs.Prelude.{ℕ, ◌+◌, ◌^◌, ◌==◌, Bool, false, List
 use Rattle.std.specs.Prelude.{if◌then◌else◌, Option, Some, None}
 use Rattle.std.specs.Str.{encode_utf8_all}
 use Rattle.serde_json.specs.Data.{Data, array, boolean, item, no_items, number, string, unsigned}
-use Rattle.image_facts.specs.declared.fact.Fact.{Fact}
-use Rattle.image_facts.specs.declared.fact.Fact.TheVariants as fact
+use Rattle.image_show.specs.declared.facts.fact.Fact.{Fact}
+use Rattle.image_show.specs.declared.facts.fact.Fact.TheVariants as fact
 use Rattle.image_show.specs.Texts.{fact_text}
 use Rattle.image_json.specs.declared.array.Array.{Array}
 use Rattle.image_json.specs.declared.array.Array.TheVariants.{BadPages, Flags, BlockRuns, FrameRuns}

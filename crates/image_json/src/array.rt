@@ -1,7 +1,7 @@
 ghost use Rattle.std.specs.Prelude.{◌≡◌};
 ghost use Rattle.image_json.specs.Values.{array_of};
 
-use image_facts::Fact;
+use image_show::Fact;
 
 /// The arrays of an object: there may be many facts of each of these kinds.
 #[derive(Clone, Copy, Debug, PartialEq, Eq)]

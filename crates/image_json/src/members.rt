@@ -2,8 +2,7 @@ ghost use Rattle.std.specs.Prelude.{◌≡◌, ◌++◌, [], None, Some, IfOk, O
 ghost use Rattle.image_json.specs.Pieces.{closing, members, piece};
 
 use crate::pieces::{closing, piece};
-use image_facts::Fact;
-use image_show::Form;
+use image_show::{Fact, Form};
 use page_core::Failed;
 use std::alloc::{AllocError, Global};
 

@@ -5,8 +5,7 @@ ghost use Rattle.image_json.specs.Values.{key_in, value_in};
 
 use crate::array::array_of;
 use crate::values::{string_text, value_text};
-use image_facts::Fact;
-use image_show::text_of;
+use image_show::{Fact, text_of};
 use std::alloc::{AllocError, Global};
 
 /// Returns what is printed for a fact after the one before it.

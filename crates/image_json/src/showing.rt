@@ -1,5 +1,5 @@
 ghost use Rattle.std.specs.Prelude.{◌≡◌, ◌≤◌, List, IfOk, string_bytes};
-ghost use Rattle.image_facts.specs.declared.fact.Fact.{Fact as OneFact};
+ghost use Rattle.image_show.specs.declared.facts.fact.Fact.{Fact as OneFact};
 ghost use Rattle.expanded_show.specs.Shown.{ShowsAll};
 ghost use Rattle.image_json.specs.Objects.{object_line};
 

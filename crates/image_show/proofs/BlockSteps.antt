@@ -9,14 +9,14 @@ use Rattle.image_walk.specs.Walking.{IsSeen}
 use Rattle.image_walk.specs.declared.limits.Limits.{Limits}
 use Rattle.image_walk.specs.declared.visit.BlockFault.{BlockFault}
 use Rattle.image_walk.specs.declared.visit.BlockFault.TheVariants as fault
-use Rattle.image_facts.specs.Reads.{block_of_part, name_of_part, IsPart, Reads, ReadsOn}
-use Rattle.image_facts.specs.Runs.{end_of, list_of, IsUpTo}
-use Rattle.image_facts.specs.Told.{blocks_in, block_run, facts_of_first, pages_in, AreTold, IsEnd}
-use Rattle.image_facts.specs.declared.fact.Fact.{Fact}
-use Rattle.image_facts.specs.declared.fact.Fact.TheVariants as fact
-use Rattle.image_facts.specs.declared.part.Part.{Part}
-use Rattle.image_facts.specs.declared.part.Part.TheVariants as part
-use Rattle.image_facts.specs.declared.reading.Reading.{Reading}
+use Rattle.image_show.specs.Reads.{block_of_part, name_of_part, IsPart, Reads, ReadsOn}
+use Rattle.image_show.specs.Runs.{end_of, list_of, IsUpTo}
+use Rattle.image_show.specs.Told.{blocks_in, block_run, facts_of_first, pages_in, AreTold, IsEnd}
+use Rattle.image_show.specs.declared.facts.fact.Fact.{Fact}
+use Rattle.image_show.specs.declared.facts.fact.Fact.TheVariants as fact
+use Rattle.image_show.specs.declared.facts.part.Part.{Part}
+use Rattle.image_show.specs.declared.facts.part.Part.TheVariants as part
+use Rattle.image_show.specs.declared.facts.reading.Reading.{Reading}
 use Rattle.image_show.specs.Parts.{maps_after, part_facts}
 use Rattle.image_show.specs.Shown.{but_last, block_facts, ShowsBlocks}
 use Rattle.image_show.specs.Forms.{Puts, PutsFront, Style, Written}

@@ -8,7 +8,7 @@ use Rattle.image_format.specs.declared.signature.area.Mark.{Mark}
 use Rattle.image_walk.specs.declared.limits.Limits.{Limits}
 use Rattle.image_check.specs.Checked.{format_of, mark_in}
 use Rattle.image_check.specs.Header.{limits_of}
-use Rattle.image_facts.specs.declared.fact.Fact.{Fact}
+use Rattle.image_show.specs.declared.facts.fact.Fact.{Fact}
 use Rattle.image_show.specs.Shown.{readable_mark, ShowsHeader, ShowsImage, ShowsMark}
 use Rattle.image_show.proofs.BlockSteps.{end_earlier}
 use Rattle.image_show.proofs.ImageSteps.{frames_earlier}

@@ -13,13 +13,13 @@ use Rattle.page_core.specs.declared.format.Format.{Format}
 use Rattle.image_walk.specs.Names.{Name, AreReadFrom, IsReading}
 use Rattle.image_walk.specs.declared.limits.Limits.{Limits}
 use Rattle.image_check.specs.Numbers.{frame_of}
-use Rattle.image_facts.specs.Reads.{name_of_part, IsPart, Reads, ReadsOn}
-use Rattle.image_facts.specs.Runs.{count_of, list_of, IsUpTo}
-use Rattle.image_facts.specs.Told.{frame_run, frames_in, numbers_in, pages_in, words_of, HasNumbers, IsEnd}
-use Rattle.image_facts.specs.declared.fact.Fact.{Fact}
-use Rattle.image_facts.specs.declared.part.Part.{Part}
-use Rattle.image_facts.specs.declared.part.Part.TheVariants as part
-use Rattle.image_facts.specs.declared.reading.Reading.{Reading}
+use Rattle.image_show.specs.Reads.{name_of_part, IsPart, Reads, ReadsOn}
+use Rattle.image_show.specs.Runs.{count_of, list_of, IsUpTo}
+use Rattle.image_show.specs.Told.{frame_run, frames_in, numbers_in, pages_in, words_of, HasNumbers, IsEnd}
+use Rattle.image_show.specs.declared.facts.fact.Fact.{Fact}
+use Rattle.image_show.specs.declared.facts.part.Part.{Part}
+use Rattle.image_show.specs.declared.facts.part.Part.TheVariants as part
+use Rattle.image_show.specs.declared.facts.reading.Reading.{Reading}
 use Rattle.image_show.specs.Parts.{left_after, numbers_in_part, rest_of, RunsOn}
 use Rattle.image_show.specs.Shown.{but_last, frame_facts, ShowsFrames}
 use Rattle.image_show.specs.Forms.{Puts, PutsFront, Style, Written}

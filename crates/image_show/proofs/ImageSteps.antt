@@ -6,8 +6,8 @@ use Rattle.definitions.specs.Disk.{Content, HasRisen}
 use Rattle.definitions.specs.FreeRuns.{runs_of}
 use Rattle.image_walk.specs.Names.{Name}
 use Rattle.image_walk.specs.declared.limits.Limits.{Limits}
-use Rattle.image_facts.specs.Told.{IsEnd}
-use Rattle.image_facts.specs.declared.fact.Fact.{Fact}
+use Rattle.image_show.specs.Told.{IsEnd}
+use Rattle.image_show.specs.declared.facts.fact.Fact.{Fact}
 use Rattle.image_show.specs.Shown.{ShowsBlocks, ShowsFrames, ShowsImage}
 use Rattle.image_show.proofs.BlockSteps.{end_earlier}
 

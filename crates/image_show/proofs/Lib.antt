@@ -3,3 +3,5 @@ pub mod Earlier
 pub mod FrameSteps
 pub mod ImageSteps
 pub mod Putting
+pub mod Names
+pub mod RunLaws

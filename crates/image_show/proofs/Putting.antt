@@ -3,7 +3,7 @@ use Rattle.std.proofs.Common.{◌≡◌, ℕ, ◌+◌, ◌<◌, List, [], ◌∷
 use Rattle.std.proofs.lemmas.List.{take-append-drop, take_more}
 use Rattle.definitions.specs.Streams.{TakesAll, TakesFront}
 use Rattle.byte_streams.proofs.Taken.{TakesAll-none, TakesAll-both, TakesFront-first, TakesFront-second}
-use Rattle.image_facts.specs.declared.fact.Fact.{Fact}
+use Rattle.image_show.specs.declared.facts.fact.Fact.{Fact}
 use Rattle.image_show.specs.Forms.{kept_after, pieces, Puts, PutsFront, Style, Written}
 
 pieces_both : (style : Style) (last : Option Fact) (xs ys : List Fact) → pieces style last (xs ++ ys) ≡ pieces style last xs ++ pieces style (kept_after style last xs) ys

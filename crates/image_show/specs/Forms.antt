@@ -2,7 +2,7 @@
 use Rattle.std.specs.Prelude.{◌≡◌, ◌⊎◌, ℕ, Bool, true, List, [], ◌∷◌, ◌++◌, Option}
 use Rattle.definitions.specs.Disk.{HasRisen}
 use Rattle.definitions.specs.Streams.{TakesAll, TakesFront}
-use Rattle.image_facts.specs.declared.fact.Fact.{Fact}
+use Rattle.image_show.specs.declared.facts.fact.Fact.{Fact}
 
 -- The style of a form: what is printed for a fact, given the fact that was kept so far, and which fact is kept then.
 pub record Style : Type 0 where

@@ -2,3 +2,8 @@ pub mod Forms
 pub mod Parts
 pub mod Shown
 pub mod Texts
+pub mod HeaderFacts
+pub mod InfoFacts
+pub mod Reads
+pub mod Runs
+pub mod Told

@@ -1,12 +1,12 @@
 -- What a part of an image adds to the facts that are shown.
 use Rattle.std.specs.Prelude.{ℕ, ◌-◌, List, [], ◌++◌, map, min, Option, Some, None}
 use Rattle.definitions.specs.Bytes.{number_at}
-use Rattle.image_facts.specs.InfoFacts.{info_facts}
-use Rattle.image_facts.specs.Runs.{list_of, IsUpTo}
-use Rattle.image_facts.specs.Told.{block_run}
-use Rattle.image_facts.specs.declared.fact.Fact.{Fact}
-use Rattle.image_facts.specs.declared.part.Part.{Part}
-use Rattle.image_facts.specs.declared.part.Part.TheVariants as part
+use Rattle.image_show.specs.InfoFacts.{info_facts}
+use Rattle.image_show.specs.Runs.{list_of, IsUpTo}
+use Rattle.image_show.specs.Told.{block_run}
+use Rattle.image_show.specs.declared.facts.fact.Fact.{Fact}
+use Rattle.image_show.specs.declared.facts.part.Part.{Part}
+use Rattle.image_show.specs.declared.facts.part.Part.TheVariants as part
 
 -- what the info page says
 abbrev pub facts_of_info : Part → List ℕ → List Fact

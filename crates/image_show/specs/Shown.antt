@@ -11,11 +11,11 @@ use Rattle.image_walk.specs.Names.{Name, maps_in, IsReadFrom}
 use Rattle.image_walk.specs.declared.limits.Limits.{Limits}
 use Rattle.image_check.specs.Checked.{format_of, mark_in}
 use Rattle.image_check.specs.Header.{is_compressed, limits_of}
-use Rattle.image_facts.specs.HeaderFacts.{header_facts}
-use Rattle.image_facts.specs.Told.{blocks_in, block_run, facts_of_first, frames_in, frame_run, pages_in, HasNumbers}
-use Rattle.image_facts.specs.Told.{IsEnd, IsFront}
-use Rattle.image_facts.specs.declared.fact.Fact.{Fact}
-use Rattle.image_facts.specs.declared.fact.Fact.TheVariants as fact
+use Rattle.image_show.specs.HeaderFacts.{header_facts}
+use Rattle.image_show.specs.Told.{blocks_in, block_run, facts_of_first, frames_in, frame_run, pages_in, HasNumbers}
+use Rattle.image_show.specs.Told.{IsEnd, IsFront}
+use Rattle.image_show.specs.declared.facts.fact.Fact.{Fact}
+use Rattle.image_show.specs.declared.facts.fact.Fact.TheVariants as fact
 use Rattle.image_show.specs.declared.shown.Shown.{Shown}
 use Rattle.image_show.specs.declared.shown.Shown.TheVariants.{Area, NoHeader}
 

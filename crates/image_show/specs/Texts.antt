@@ -5,12 +5,12 @@ use Rattle.definitions.specs.InfoPage.{text_of_name}
 use Rattle.fact_lines.specs.Texts.{name_text, numbers_text, value_text, word_text}
 use Rattle.plain_machine.specs.UsableArea.{no_swap_at}
 use Rattle.plain_machine.specs.Replies.{hex_text, why_text}
-use Rattle.image_facts.specs.declared.fact.Fact.{Fact}
-use Rattle.image_facts.specs.declared.fact.Fact.TheVariants as fact
-use Rattle.image_facts.specs.declared.fact.Flag.{Flag}
-use Rattle.image_facts.specs.declared.fact.Flag.TheVariants as flag
-use Rattle.image_facts.specs.declared.fact.Header.{Header}
-use Rattle.image_facts.specs.declared.fact.Header.TheVariants.{Generic, X86, Arm64, Unknown}
+use Rattle.image_show.specs.declared.facts.fact.Fact.{Fact}
+use Rattle.image_show.specs.declared.facts.fact.Fact.TheVariants as fact
+use Rattle.image_show.specs.declared.facts.fact.Flag.{Flag}
+use Rattle.image_show.specs.declared.facts.fact.Flag.TheVariants as flag
+use Rattle.image_show.specs.declared.facts.fact.Header.{Header}
+use Rattle.image_show.specs.declared.facts.fact.Header.TheVariants.{Generic, X86, Arm64, Unknown}
 use Rattle.image_show.specs.Forms.{Style}
 
 abbrev pub image_text : Bool → List ℕ

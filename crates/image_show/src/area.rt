@@ -2,7 +2,7 @@
 ghost use Rattle.std.specs.Prelude.{◌≡◌, ◌≤◌, List, true, false, Ok, Err, IfOk, OnOk};
 ghost use Rattle.image_walk.specs.Names.{IsReadFrom};
 ghost use Rattle.image_check.specs.Checked.{mark_in};
-ghost use Rattle.image_facts.specs.declared.fact.Fact.{Fact as OneFact};
+ghost use Rattle.image_show.specs.declared.facts.fact.Fact.{Fact as OneFact};
 ghost use Rattle.image_show.specs.Forms.{HasFailed, Puts, PutsFront};
 ghost use Rattle.image_show.specs.Shown.{readable_mark, Shows, ShowsFront, ShowsHeader};
 ghost use Rattle.image_show.specs.declared.fault.Fault.TheVariants.{NoMemory, Write};
@@ -10,9 +10,8 @@ ghost use Rattle.image_show.specs.declared.fault.Fault.TheVariants.{NoMemory, Wr
 use crate::image::show_image;
 use crate::printing::{print_header_only, print_only};
 use crate::shown::Shown;
-use crate::{Fault, Form};
+use crate::{Fact, Fault, Form};
 use image_check::{is_compressed, mark_in};
-use image_facts::Fact;
 use image_format::{AreaKind, Mark};
 use page_core::Page;
 use sector_disk::Disk;

@@ -1,17 +1,16 @@
 //! The info page and the blocks of an image.
 ghost use Rattle.std.specs.Prelude.{◌≡◌, ◌≤◌, ◌++◌, ◌∷◌, [], List, Bool, true, OnOk, OnErr, map};
-ghost use Rattle.image_facts.specs.Reads.{Reads};
-ghost use Rattle.image_facts.specs.Runs.{list_of};
-ghost use Rattle.image_facts.specs.Told.{block_run};
-ghost use Rattle.image_facts.specs.declared.fact.Fact.{Fact as OneFact};
-ghost use Rattle.image_facts.specs.declared.fact.Fact.TheVariants.{Maps};
+ghost use Rattle.image_show.specs.Reads.{Reads};
+ghost use Rattle.image_show.specs.Runs.{list_of};
+ghost use Rattle.image_show.specs.Told.{block_run};
+ghost use Rattle.image_show.specs.declared.facts.fact.Fact.{Fact as OneFact};
+ghost use Rattle.image_show.specs.declared.facts.fact.Fact.TheVariants.{Maps};
 ghost use Rattle.image_show.specs.Forms.{HasFailed, Puts, PutsFront};
 ghost use Rattle.image_show.specs.Parts.{facts_of_info, maps_after, part_facts};
 ghost use Rattle.image_show.specs.Shown.{ShowsBlocks};
 
-use crate::Form;
 use crate::printing::{print, print_any};
-use image_facts::{Fact, Part, Reading, Runs, info_facts};
+use crate::{Fact, Form, Part, Reading, Runs, info_facts};
 use page_core::{Failed, Page};
 use sector_disk::Disk;
 

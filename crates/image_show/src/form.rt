@@ -1,7 +1,7 @@
 ghost use Rattle.std.specs.Prelude.{◌≡◌, ◌≤◌, ℕ, Bool, [], ◌∷◌, OnOk, OnErr};
 ghost use Rattle.image_show.specs.Forms.{HasFailed, Puts, PutsFront, Style, Written};
 
-use image_facts::Fact;
+use crate::Fact;
 use page_core::Failed;
 
 /// A form in which facts are printed, one after another.

@@ -3,17 +3,16 @@ ghost use Rattle.std.specs.Prelude.{◌≡◌, ◌+◌, ◌<◌, ◌≤◌, ◌^
 ghost use Rattle.std.specs.Prelude.{OnErr, map, take};
 ghost use Rattle.image_walk.specs.Names.{Name};
 ghost use Rattle.image_check.specs.Numbers.{frame_of};
-ghost use Rattle.image_facts.specs.Reads.{Reads, ReadsOn};
-ghost use Rattle.image_facts.specs.Runs.{count_of, list_of};
-ghost use Rattle.image_facts.specs.Told.{frame_run, words_of, IsEnd};
-ghost use Rattle.image_facts.specs.declared.fact.Fact.{Fact as OneFact};
+ghost use Rattle.image_show.specs.Reads.{Reads, ReadsOn};
+ghost use Rattle.image_show.specs.Runs.{count_of, list_of};
+ghost use Rattle.image_show.specs.Told.{frame_run, words_of, IsEnd};
+ghost use Rattle.image_show.specs.declared.facts.fact.Fact.{Fact as OneFact};
 ghost use Rattle.image_show.specs.Forms.{HasFailed, Puts, PutsFront};
 ghost use Rattle.image_show.specs.Parts.{left_after, numbers_in_part, rest_of, RunsOn};
 ghost use Rattle.image_show.specs.Shown.{ShowsFrames};
 
-use crate::Form;
 use crate::printing::print_any;
-use image_facts::{Fact, Part, Reading, Runs};
+use crate::{Fact, Form, Part, Reading, Runs};
 use page_core::{Failed, Format, Page};
 use sector_disk::Disk;
 

@@ -4,6 +4,7 @@
 
 mod area;
 mod blocks;
+mod facts;
 mod fault;
 mod form;
 mod frames;
@@ -14,6 +15,7 @@ mod shown;
 mod text;
 
 pub use area::show;
+pub use facts::{Fact, Facts, Flag, Header, Part, Reading, Runs, header_facts, info_facts};
 pub use fault::Fault;
 pub use form::Form;
 pub use shown::Shown;

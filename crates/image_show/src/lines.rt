@@ -1,10 +1,10 @@
 ghost use Rattle.std.specs.Prelude.{◌≡◌, None, false};
 ghost use Rattle.image_show.specs.Texts.{lines};
 
+use crate::Fact;
 use crate::form::Form;
 use crate::text::line_of;
 use byte_streams::{Sink, put_all};
-use image_facts::Fact;
 use page_core::Failed;
 
 /// A sink receives facts as lines.

@@ -1,11 +1,10 @@
 ghost use Rattle.std.specs.Prelude.{◌≡◌, ◌≤◌, Err, OnOk, OnErr};
-ghost use Rattle.image_facts.specs.HeaderFacts.{header_facts};
-ghost use Rattle.image_facts.specs.Runs.{list_of};
+ghost use Rattle.image_show.specs.HeaderFacts.{header_facts};
+ghost use Rattle.image_show.specs.Runs.{list_of};
 ghost use Rattle.image_show.specs.Forms.{HasFailed, Puts, PutsFront};
 ghost use Rattle.image_show.specs.declared.fault.Fault.TheVariants.{NoMemory};
 
-use crate::{Fault, Form};
-use image_facts::{Fact, header_facts};
+use crate::{Fact, Fault, Form, header_facts};
 use page_core::{Failed, Page};
 
 /// Prints the lines of facts.

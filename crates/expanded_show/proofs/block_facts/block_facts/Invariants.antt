@@ -1,5 +1,5 @@
 use Rattle.std.proofs.Common.{◌≡◌, ◌*◌, ◌≤◌}
-use Rattle.image_facts.specs.Runs.{count_of}
+use Rattle.image_show.specs.Runs.{count_of}
 use Rattle.expanded_show.proofs.Blocks.{GatheredMaps}
 use Rattle.expanded_show.proofs.block_facts.block_facts.Given as goal
 

@@ -1,7 +1,7 @@
 use Rattle.std.proofs.Common.{◌≡◌, ◌≤◌, List, flat_map, sym, ap, ap₂, subst, ◌∙◌}
 use Rattle.std.proofs.lemmas.Result.{IfOk-weaker}
-use Rattle.image_facts.specs.HeaderFacts.{header_facts}
-use Rattle.image_facts.specs.declared.fact.Fact.{Fact}
+use Rattle.image_show.specs.HeaderFacts.{header_facts}
+use Rattle.image_show.specs.declared.facts.fact.Fact.{Fact}
 use Rattle.image_show.specs.Shown.{Shows, ShowsFront}
 use Rattle.image_show.specs.Forms.{HasFailed, Puts, PutsFront}
 use Rattle.expanded_disk.specs.Keeps.{FailsWith}

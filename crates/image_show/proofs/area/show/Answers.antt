@@ -3,7 +3,7 @@ use Rattle.std.specs.Result.{is_err}
 use Rattle.std.proofs.lemmas.Result.{err_from_is_err_and}
 use Rattle.definitions.specs.Disk.{Content}
 use Rattle.image_walk.specs.Names.{IsReadFrom}
-use Rattle.image_facts.specs.declared.fact.Fact.TheVariants as fact
+use Rattle.image_show.specs.declared.facts.fact.Fact.TheVariants as fact
 use Rattle.image_show.specs.Shown.{ShowsHeader}
 use Rattle.image_show.specs.Forms.{Puts, PutsFront}
 use Rattle.image_show.specs.declared.fault.Fault.{Fault}

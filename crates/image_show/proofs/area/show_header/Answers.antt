@@ -3,8 +3,8 @@ use Rattle.image_format.specs.AreaKind.{area_kind}
 use Rattle.image_format.specs.declared.signature.area.AreaKind.{AreaKind}
 use Rattle.image_format.specs.declared.signature.area.Mark.{Mark}
 use Rattle.image_check.specs.Checked.{mark_in}
-use Rattle.image_facts.specs.HeaderFacts.{header_facts}
-use Rattle.image_facts.specs.declared.fact.Fact.{Fact}
+use Rattle.image_show.specs.HeaderFacts.{header_facts}
+use Rattle.image_show.specs.declared.facts.fact.Fact.{Fact}
 use Rattle.image_show.specs.Shown.{readable_mark, ShowsMark}
 use Rattle.image_show.specs.Forms.{Puts, PutsFront}
 use Rattle.image_show.proofs.Putting.{on_ok_then}

@@ -1,10 +1,10 @@
 use Rattle.std.proofs.Common.{ℕ, ◌+◌, ◌<◌, [], ◌∷◌, ◌++◌, map, false, Option, refl, subst, sym, ap, ◌∙◌, rules, arith}
 use Rattle.definitions.specs.Disk.{Content}
 use Rattle.image_walk.specs.declared.limits.Limits.{Limits}
-use Rattle.image_facts.specs.Reads.{block_of_part, ReadsOn}
-use Rattle.image_facts.specs.Runs.{list_of}
-use Rattle.image_facts.specs.Told.{block_run, IsEnd}
-use Rattle.image_facts.specs.declared.fact.Fact.TheVariants.{Maps}
+use Rattle.image_show.specs.Reads.{block_of_part, ReadsOn}
+use Rattle.image_show.specs.Runs.{list_of}
+use Rattle.image_show.specs.Told.{block_run, IsEnd}
+use Rattle.image_show.specs.declared.facts.fact.Fact.TheVariants.{Maps}
 use Rattle.image_show.specs.Forms.{Puts, PutsFront}
 use Rattle.image_show.proofs.BlockSteps.{Adds, BlocksSoFar, blocks_cut, blocks_end_cut, blocks_more, blocks_start, blocks_whole}
 use Rattle.image_show.proofs.Putting.{on_any_err, on_ok_then}

@@ -1,8 +1,8 @@
 use Rattle.std.proofs.Common.{List, [], ◌∷◌, map, subst}
-use Rattle.image_facts.specs.Runs.{list_of}
-use Rattle.image_facts.specs.Told.{block_run}
-use Rattle.image_facts.specs.declared.fact.Fact.{Fact}
-use Rattle.image_facts.specs.declared.fact.Fact.TheVariants.{Maps}
+use Rattle.image_show.specs.Runs.{list_of}
+use Rattle.image_show.specs.Told.{block_run}
+use Rattle.image_show.specs.declared.facts.fact.Fact.{Fact}
+use Rattle.image_show.specs.declared.facts.fact.Fact.TheVariants.{Maps}
 use Rattle.image_show.specs.Forms.{Puts, PutsFront}
 use Rattle.image_show.proofs.Putting.{front_first, front_then, on_ok_then, whole_then}
 use Rattle.image_show.proofs.blocks.print_end.Goals as goal

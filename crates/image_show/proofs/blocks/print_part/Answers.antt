@@ -1,7 +1,7 @@
 use Rattle.std.proofs.Common.{List, map, subst}
-use Rattle.image_facts.specs.Runs.{list_of}
-use Rattle.image_facts.specs.Told.{block_run}
-use Rattle.image_facts.specs.declared.fact.Fact.{Fact}
+use Rattle.image_show.specs.Runs.{list_of}
+use Rattle.image_show.specs.Told.{block_run}
+use Rattle.image_show.specs.declared.facts.fact.Fact.{Fact}
 use Rattle.image_show.specs.Parts.{facts_of_info}
 use Rattle.image_show.specs.Forms.{Puts, PutsFront}
 use Rattle.std.proofs.Common.{OnOk}

@@ -1,10 +1,10 @@
 use Rattle.std.proofs.Common.{◌≡◌, ℕ, List, map, false, Option, Some, refl, subst, sym, ap, ◌∙◌, arith}
 use Rattle.definitions.specs.Disk.{Content}
 use Rattle.image_walk.specs.declared.limits.Limits.{Limits}
-use Rattle.image_facts.specs.Reads.{ReadsOn}
-use Rattle.image_facts.specs.Runs.{list_of}
-use Rattle.image_facts.specs.Told.{frame_run, IsEnd}
-use Rattle.image_facts.specs.declared.fact.Fact.{Fact}
+use Rattle.image_show.specs.Reads.{ReadsOn}
+use Rattle.image_show.specs.Runs.{list_of}
+use Rattle.image_show.specs.Told.{frame_run, IsEnd}
+use Rattle.image_show.specs.declared.facts.fact.Fact.{Fact}
 use Rattle.image_show.specs.Forms.{Puts, PutsFront}
 use Rattle.image_show.proofs.FrameSteps.{frames_cut, frames_end_cut, frames_start, frames_step, frames_whole}
 use Rattle.image_show.proofs.Putting.{on_any_err, on_ok_then}

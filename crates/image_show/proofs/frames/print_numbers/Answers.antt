@@ -1,8 +1,8 @@
 use Rattle.std.proofs.Common.{◌≡◌, ℕ, ◌+◌, ◌<◌, List, map, take, subst, sym, ap, ◌∙◌, arith}
 use Rattle.definitions.specs.Bytes.{word}
 use Rattle.image_check.specs.Numbers.{frame_of}
-use Rattle.image_facts.specs.Told.{frame_run, words_of}
-use Rattle.image_facts.specs.declared.fact.Fact.{Fact}
+use Rattle.image_show.specs.Told.{frame_run, words_of}
+use Rattle.image_show.specs.declared.facts.fact.Fact.{Fact}
 use Rattle.image_show.specs.Parts.{RunsOn}
 use Rattle.image_show.specs.Forms.{Puts, PutsFront}
 use Rattle.image_show.proofs.BlockSteps.{Adds}

@@ -1,7 +1,7 @@
 use Rattle.std.proofs.Common.{◌+◌, ◌≤◌, map, take}
 use Rattle.image_check.specs.Numbers.{frame_of}
-use Rattle.image_facts.specs.Runs.{count_of}
-use Rattle.image_facts.specs.Told.{words_of}
+use Rattle.image_show.specs.Runs.{count_of}
+use Rattle.image_show.specs.Told.{words_of}
 use Rattle.image_show.proofs.FrameSteps.{NumbersSoFar}
 use Rattle.image_show.proofs.frames.print_numbers.Given as goal
 

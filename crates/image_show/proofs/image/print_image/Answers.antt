@@ -1,8 +1,8 @@
 use Rattle.std.proofs.Common.{◌≡◌, List, [], ◌++◌, Bool, true, false, Option, refl, sym, subst, append-nil}
 use Rattle.definitions.specs.Disk.{Content}
 use Rattle.image_walk.specs.declared.limits.Limits.{Limits}
-use Rattle.image_facts.specs.HeaderFacts.{header_facts}
-use Rattle.image_facts.specs.declared.fact.Fact.{Fact}
+use Rattle.image_show.specs.HeaderFacts.{header_facts}
+use Rattle.image_show.specs.declared.facts.fact.Fact.{Fact}
 use Rattle.image_show.specs.Shown.{ShowsFrames}
 use Rattle.image_show.specs.Forms.{Puts, PutsFront}
 use Rattle.image_show.proofs.ImageSteps.{blocks_later, frames_earlier, image_begun, image_none, image_of_both}

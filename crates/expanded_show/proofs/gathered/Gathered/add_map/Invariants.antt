@@ -1,7 +1,7 @@
 use Rattle.std.proofs.Common.{ℕ, List, ◌+◌, ◌≤◌, ◌∷◌, ◌++◌, map}
 use Rattle.std.specs.List.{range_with_len}
 use Rattle.definitions.specs.Bytes.{word}
-use Rattle.image_facts.specs.Runs.{count_of}
+use Rattle.image_show.specs.Runs.{count_of}
 use Rattle.expanded_show.specs.Blocks.{HasGathered}
 use Rattle.expanded_show.proofs.gathered.Gathered.add_map.Given as goal
 

@@ -3,12 +3,12 @@ ghost use Rattle.std.specs.Prelude.{◌≡◌, ◌+◌, ◌<◌, ◌≤◌, ◌+
 ghost use Rattle.definitions.specs.Bytes.{bytes_at};
 ghost use Rattle.definitions.specs.InfoPage.{text_of_name};
 ghost use Rattle.image_format.specs.AreaKind.{area_kind};
-ghost use Rattle.image_facts.specs.HeaderFacts.{area_facts, facts_by_mark, flag_fact, flag_facts, header_facts};
-ghost use Rattle.image_facts.specs.HeaderFacts.{label_facts, mark_facts, swap_facts};
-ghost use Rattle.image_facts.specs.declared.fact.Fact.TheVariants.{BadPage};
+ghost use Rattle.image_show.specs.HeaderFacts.{area_facts, facts_by_mark, flag_fact, flag_facts, header_facts};
+ghost use Rattle.image_show.specs.HeaderFacts.{label_facts, mark_facts, swap_facts};
+ghost use Rattle.image_show.specs.declared.facts.fact.Fact.TheVariants.{BadPage};
 
-use crate::Facts;
-use crate::fact::{Fact, Flag};
+use crate::facts::Facts;
+use crate::facts::fact::{Fact, Flag};
 use image_check::mark_in;
 use image_format::{Area, AreaKind, Mark, take_back};
 use page_core::Page;

@@ -11,10 +11,10 @@ use Rattle.image_format.specs.declared.signature.area.AreaKind.{AreaKind}
 use Rattle.image_format.specs.declared.signature.area.AreaKind.TheVariants as kind
 use Rattle.image_format.specs.declared.signature.area.Mark.{Mark}
 use Rattle.image_check.specs.Checked.{mark_in}
-use Rattle.image_facts.specs.declared.fact.Fact.{Fact}
-use Rattle.image_facts.specs.declared.fact.Fact.TheVariants as fact
-use Rattle.image_facts.specs.declared.fact.Flag.{Flag}
-use Rattle.image_facts.specs.declared.fact.Flag.TheVariants as flag
+use Rattle.image_show.specs.declared.facts.fact.Fact.{Fact}
+use Rattle.image_show.specs.declared.facts.fact.Fact.TheVariants as fact
+use Rattle.image_show.specs.declared.facts.fact.Flag.{Flag}
+use Rattle.image_show.specs.declared.facts.fact.Flag.TheVariants as flag
 
 -- a label (sws_volume), if it isn't empty
 abbrev pub label_facts : List ℕ → List Fact

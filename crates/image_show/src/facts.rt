@@ -1,5 +1,4 @@
 //! What an area and its image say, as facts: the header block, the info page, and the blocks and page frames in runs.
-#![tactic(auto)]
 
 mod fact;
 mod header;

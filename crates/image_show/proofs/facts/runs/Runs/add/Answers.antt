@@ -1,8 +1,8 @@
 use Rattle.std.proofs.Common.{◌≡◌, ◌+◌, ℕ, Option, subst, arith}
-use Rattle.image_facts.specs.Runs.{IsUpTo}
-use Rattle.image_facts.proofs.RunLaws.{up_to_first, up_to_joined, up_to_parted}
-use Rattle.image_facts.proofs.runs.Runs.add.Goals.{else-number-start-via-then-number-start+else-number-start-2, else-number-start-via-else-number-start}
-use Rattle.image_facts.proofs.runs.Runs.add.Goals as goal
+use Rattle.image_show.specs.Runs.{IsUpTo}
+use Rattle.image_show.proofs.RunLaws.{up_to_first, up_to_joined, up_to_parted}
+use Rattle.image_show.proofs.facts.runs.Runs.add.Goals.{else-number-start-via-then-number-start+else-number-start-2, else-number-start-via-else-number-start}
+use Rattle.image_show.proofs.facts.runs.Runs.add.Goals as goal
 
 pub returns-in_default-clause-runs : goal.returns-in_default-clause-runs
 returns-in_default-clause-runs c = λ numbers ended so_far.

@@ -1,9 +1,9 @@
 ghost use Rattle.std.specs.Prelude.{List, Ok, IfSome, IfNone};
 ghost use Rattle.image_walk.specs.Names.{Name, page_at};
 ghost use Rattle.image_walk.specs.Walking.{IsPlaced, name_of};
-ghost use Rattle.image_facts.specs.Reads.{EndsPart, TakesPart, HasWanted};
+ghost use Rattle.image_show.specs.Reads.{EndsPart, TakesPart, HasWanted};
 
-use crate::Part;
+use crate::facts::Part;
 use image_walk::{Limits, Visit, Walker};
 use page_core::{NoMemory, Page};
 use sector_disk::Disk;
@@ -25,8 +25,8 @@ pub struct Reading {
 impl Reading {
     ghost use Rattle.std.specs.Prelude.{◌≡◌, ◌≤◌, ℕ, List, [], IfOk, IfSome, IfNone};
     ghost use Rattle.image_walk.specs.Names.{Name};
-    ghost use Rattle.image_facts.specs.Reads.{Reads, ReadsOn};
-    ghost use Rattle.image_facts.specs.Told.{IsEnd};
+    ghost use Rattle.image_show.specs.Reads.{Reads, ReadsOn};
+    ghost use Rattle.image_show.specs.Told.{IsEnd};
 
     /// Returns a reading before the first map, which the header names.
     pub fn begin(alloc: Global, limits: &Limits, first: u64) -> Result<Reading, NoMemory>

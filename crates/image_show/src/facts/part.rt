@@ -1,5 +1,5 @@
 ghost use Rattle.std.specs.Prelude.{◌≡◌};
-ghost use Rattle.image_facts.specs.Reads.{block_of_part};
+ghost use Rattle.image_show.specs.Reads.{block_of_part};
 
 /// A block of an image that was read.
 #[derive(Clone, Copy, Debug, PartialEq, Eq)]

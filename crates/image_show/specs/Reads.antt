@@ -4,10 +4,10 @@ use Rattle.definitions.specs.Bytes.{number_at}
 use Rattle.definitions.specs.Disk.{Content}
 use Rattle.image_walk.specs.Names.{Name, map_at, page_at, maps_in}
 use Rattle.image_walk.specs.Walking.{Follows, IsSeen, names_left}
-use Rattle.image_facts.specs.Told.{AreTold, is_told, pages_in}
-use Rattle.image_facts.specs.declared.part.Part.{Part}
-use Rattle.image_facts.specs.declared.part.Part.TheVariants as part
-use Rattle.image_facts.specs.declared.reading.Reading.{Reading}
+use Rattle.image_show.specs.Told.{AreTold, is_told, pages_in}
+use Rattle.image_show.specs.declared.facts.part.Part.{Part}
+use Rattle.image_show.specs.declared.facts.part.Part.TheVariants as part
+use Rattle.image_show.specs.declared.facts.reading.Reading.{Reading}
 
 abbrev pub block_of_part : Part → ℕ
 block_of_part (part.Map maps b) = b

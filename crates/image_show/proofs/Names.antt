@@ -3,8 +3,8 @@ use Rattle.std.proofs.Common.{◌≡◌, ℕ, ◌+◌, ◌-◌, ◌<◌, true, f
 use Rattle.std.proofs.lemmas.Bool.{lt-ltb, le-ltb}
 use Rattle.definitions.specs.Bytes.{number_at}
 use Rattle.image_walk.specs.Names.{Name, map_at, page_at, is_over}
-use Rattle.image_facts.specs.Reads.{wanted_after}
-use Rattle.image_facts.specs.Told.{AreTold, is_wanted}
+use Rattle.image_show.specs.Reads.{wanted_after}
+use Rattle.image_show.specs.Told.{AreTold, is_wanted}
 
 false_true : false ≡ true → ⊥
 false_true e = cc

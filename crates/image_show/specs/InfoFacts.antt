@@ -6,9 +6,9 @@ use Rattle.definitions.specs.declared.info.Ident.{Ident}
 use Rattle.fact_lines.specs.declared.name.Name.{Name}
 use Rattle.fact_lines.specs.declared.name.Name.TheVariants as name
 use Rattle.image_check.specs.Info.{is_version_text, magic}
-use Rattle.image_facts.specs.declared.fact.Fact.{Fact}
-use Rattle.image_facts.specs.declared.fact.Fact.TheVariants as fact
-use Rattle.image_facts.specs.declared.fact.Header.TheVariants.{Generic, X86, Arm64, Unknown}
+use Rattle.image_show.specs.declared.facts.fact.Fact.{Fact}
+use Rattle.image_show.specs.declared.facts.fact.Fact.TheVariants as fact
+use Rattle.image_show.specs.declared.facts.fact.Header.TheVariants.{Generic, X86, Arm64, Unknown}
 
 abbrev pub name_fact : Ident → ℕ → Name → Fact
 name_fact ident j key = fact.Name key (slice_index_or ident.names j [])

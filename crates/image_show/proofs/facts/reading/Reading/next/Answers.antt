@@ -1,7 +1,7 @@
 use Rattle.std.proofs.Common.{Option, Some, None}
 use Rattle.std.specs.Option.{IfNone}
-use Rattle.image_facts.proofs.Names.{not_over}
-use Rattle.image_facts.proofs.reading.Reading.next.Goals as goal
+use Rattle.image_show.proofs.Names.{not_over}
+use Rattle.image_show.proofs.facts.reading.Reading.next.Goals as goal
 
 on_none : {A : Type 0} {P : Type 0} (o : Option A) → P → IfNone o P
 on_none None p = p

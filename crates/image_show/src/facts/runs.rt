@@ -1,5 +1,5 @@
 ghost use Rattle.std.specs.Prelude.{◌≡◌, ◌+◌, ◌<◌, ◌≤◌, ◌^◌, List, ℕ, [], ◌∷◌, ◌++◌};
-ghost use Rattle.image_facts.specs.Runs.{count_of, end_of, list_of, IsUpTo};
+ghost use Rattle.image_show.specs.Runs.{count_of, end_of, list_of, IsUpTo};
 
 /// Collects numbers that come one after another into runs, each a first number and a count. Only the last run is kept.
 #[derive(Clone, Copy, Debug, PartialEq, Eq)]

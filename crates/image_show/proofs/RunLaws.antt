@@ -2,7 +2,7 @@
 use Rattle.std.proofs.Common.{◌≡◌, ◌≢◌, ℕ, ◌+◌, List, [], ◌∷◌, ◌++◌, Bool, true, false, cond, eqb, Some, None, refl, sym, ap, ◌∙◌, subst, inl, inr, arith, append-nil, append_assoc}
 use Rattle.std.proofs.lemmas.Bool.{cases_eq, cond-true, cond-false, eq-eqb, ne_eqb}
 use Rattle.definitions.specs.FreeRuns.{in_front, runs_of}
-use Rattle.image_facts.specs.Runs.{IsUpTo, list_of}
+use Rattle.image_show.specs.Runs.{IsUpTo, list_of}
 
 -- a number after runs: it joins the last of them where it follows that
 abbrev at_end : List (ℕ × ℕ) → ℕ → List (ℕ × ℕ)

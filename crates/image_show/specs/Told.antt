@@ -9,9 +9,9 @@ use Rattle.image_walk.specs.Names.{Name, map_at, page_at, block_of, IsReading, A
 use Rattle.image_walk.specs.Walking.{IsSeen}
 use Rattle.image_walk.specs.declared.limits.Limits.{Limits}
 use Rattle.image_check.specs.Numbers.{frame_of}
-use Rattle.image_facts.specs.InfoFacts.{info_facts}
-use Rattle.image_facts.specs.declared.fact.Fact.{Fact}
-use Rattle.image_facts.specs.declared.fact.Fact.TheVariants as fact
+use Rattle.image_show.specs.InfoFacts.{info_facts}
+use Rattle.image_show.specs.declared.facts.fact.Fact.{Fact}
+use Rattle.image_show.specs.declared.facts.fact.Fact.TheVariants as fact
 
 -- the pages that entries name, and all blocks, in the order of reading
 abbrev pub pages_in : List Name → List (List ℕ)

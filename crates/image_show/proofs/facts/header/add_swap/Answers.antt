@@ -2,9 +2,9 @@ use Rattle.std.proofs.Common.{◌≡◌, ℕ, List, [], ◌∷◌, ◌++◌, len
 use Rattle.std.proofs.lemmas.List.{take_min}
 use Rattle.definitions.specs.Bytes.{bytes_at}
 use Rattle.fact_lines.proofs.Joined.{four_parts}
-use Rattle.image_facts.specs.HeaderFacts.{label_facts}
-use Rattle.image_facts.specs.declared.fact.Fact.TheVariants as fact
-use Rattle.image_facts.proofs.header.add_swap.Goals as goal
+use Rattle.image_show.specs.HeaderFacts.{label_facts}
+use Rattle.image_show.specs.declared.facts.fact.Fact.TheVariants as fact
+use Rattle.image_show.proofs.facts.header.add_swap.Goals as goal
 
 -- the first of a list, of no more than it has
 take_within : (count : ℕ) (bad : List ℕ) → length bad ≡ 630 → take (min count 630) bad ≡ take count bad

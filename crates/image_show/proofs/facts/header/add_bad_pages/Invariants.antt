@@ -1,6 +1,6 @@
 use Rattle.std.proofs.Common.{◌≡◌, ◌+◌, ◌++◌, length, map, take}
-use Rattle.image_facts.specs.declared.fact.Fact.TheVariants.{BadPage}
-use Rattle.image_facts.proofs.header.add_bad_pages.Given as goal
+use Rattle.image_show.specs.declared.facts.fact.Fact.TheVariants.{BadPage}
+use Rattle.image_show.proofs.facts.header.add_bad_pages.Given as goal
 
 abbrev pub invariant-loop-slot : goal.invariant-loop-slot
 invariant-loop-slot l = record {

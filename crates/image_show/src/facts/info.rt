@@ -3,11 +3,11 @@ ghost use Rattle.std.specs.Prelude.{◌≡◌, ◌<◌, ◌≤◌, ◌++◌, len
 ghost use Rattle.definitions.specs.Bytes.{bytes_at};
 ghost use Rattle.definitions.specs.InfoPage.{text_of_name};
 ghost use Rattle.image_check.specs.Info.{is_version_text};
-ghost use Rattle.image_facts.specs.InfoFacts.{arch_facts, generic_facts, info_facts, start_facts, text_facts};
-ghost use Rattle.image_facts.specs.InfoFacts.{x86_facts};
+ghost use Rattle.image_show.specs.InfoFacts.{arch_facts, generic_facts, info_facts, start_facts, text_facts};
+ghost use Rattle.image_show.specs.InfoFacts.{x86_facts};
 
-use crate::Facts;
-use crate::fact::{Fact, Header};
+use crate::facts::Facts;
+use crate::facts::fact::{Fact, Header};
 use fact_lines::{Name, is_printable};
 use image_format::info::{Ident, decode};
 use page_core::Page;

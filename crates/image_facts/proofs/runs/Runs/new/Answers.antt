@@ -1,5 +1,0 @@
-use Rattle.image_facts.proofs.RunLaws.{up_to_none}
-use Rattle.image_facts.proofs.runs.Runs.new.Goals as goal
-
-pub returns-clause-start : goal.returns-clause-start
-returns-clause-start c = up_to_none
