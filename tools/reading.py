@@ -16,7 +16,7 @@ START = TOP / "crates/swsusp_cli/src/top.rt"
 USE = re.compile(r"^(?:ghost )?use Rattle\.(\w+)\.specs\.([\w.]+?)(?:\.\{([^}]*)\}|\.(◌\S*))?(?: as \w+)?;?$", re.MULTILINE)
 FLOORS = [
     ("The program", ("swsusp_cli", "command_words", "command_kit")),
-    ("What a command's machine does", ("command_core", "world_runs", "theorem_laws")),
+    ("What a command's machine does", ("command_core", "theorem_laws")),
     ("The plain machine, and what stands for it", ("plain_machine", "protocol_laws", "restore_laws", "image_laws")),
     ("Inputs and outputs", ("script", "dump_file", "stream_in", "stream_out", "byte_streams")),
     ("The engine's own words", ("world_core", "hib_core", "resume_core", "sleep_core", "machine", "placement", "image_read", "image_write")),

@@ -2,3 +2,19 @@ pub mod Beginning
 mod Counting
 pub mod Runs
 pub mod Closer
+pub mod Leaving
+pub mod Counted
+pub mod Playing
+pub mod Booting
+pub mod Points
+pub mod Begun
+pub mod Hibernating
+pub mod Traces
+pub mod Resuming
+pub mod Saved
+pub mod Loaded
+pub mod Crashes
+pub mod Walking
+pub mod LastReplies
+pub mod Hibernated
+pub mod Resumed

@@ -19,9 +19,9 @@ use Rattle.plain_machine.specs.declared.reply.Reply.{Reply}
 use Rattle.sector_disk.specs.declared.disk.Disk.{Ghosts}
 use Rattle.world_core.specs.StandsFor.{IsNewWorld, hardware_of, shown}
 use Rattle.world_core.specs.World.{World}
-use Rattle.world_runs.specs.Played.{Played, situation_of}
-use Rattle.world_runs.specs.Turns.{Situation}
-use Rattle.world_runs.proofs.Playing.{played_none, played_then}
+use Rattle.command_core.specs.Played.{Played, situation_of}
+use Rattle.command_core.specs.Turns.{Situation}
+use Rattle.command_core.proofs.Playing.{played_none, played_then}
 use Rattle.command_core.specs.Runs.{goes_on, held_at_first, is_booted}
 use Rattle.command_core.specs.Parts.{Boots, Finishes, GoesOn, Starts}
 use Rattle.command_core.specs.Runs.{GoOn, HasNewFault, IsHibernation, IsReady, IsResumption, Ran, boot_events, core_steps, last_reply}

@@ -4,7 +4,7 @@ use Rattle.plain_machine.specs.declared.event.Event.{Event}
 use Rattle.plain_machine.specs.declared.reply.Reply.{Reply}
 use Rattle.sector_disk.specs.declared.disk.Disk.{Ghosts}
 use Rattle.world_core.specs.World.{World}
-use Rattle.world_runs.specs.Played.{Played}
+use Rattle.command_core.specs.Played.{Played}
 use Rattle.command_core.specs.Runs.{AreStepped, FailsToBoot, GoOn, HasNewFault, IsReady, core_steps, last_reply}
 use Rattle.command_core.specs.declared.ending.Ended.{Ended}
 

@@ -20,7 +20,7 @@ use Rattle.plain_machine.specs.declared.reply.Reply.{Reply}
 use Rattle.plain_machine.specs.declared.reply.Reply.TheVariants as reply
 use Rattle.protocol_laws.specs.Rows.{TellsNewFault}
 use Rattle.sector_disk.specs.declared.disk.Disk.{Ghosts}
-use Rattle.world_runs.specs.Turns.{AreCounted, steps_of, AreTurns, IsLeftInside, Situation, end_of}
+use Rattle.command_core.specs.Turns.{AreCounted, steps_of, AreTurns, IsLeftInside, Situation, end_of}
 use Rattle.command_core.specs.declared.ending.Ended.{Ended}
 
 -- whether an operation has a step left after this reply

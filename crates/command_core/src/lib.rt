@@ -1,4 +1,5 @@
 //! A hibernation and a resume from the first event to the last reply, over a machine that was made from a memory dump.
+//! Runs of a world over a disk, its events with their replies, are defined here, with the laws of such runs.
 #![tactic(auto)]
 
 mod ending;

@@ -3,7 +3,7 @@ use Rattle.std.proofs.Common.{◌≡◌, Option, Some, None, ap, ◌∙◌}
 use Rattle.definitions.specs.Disk as disk
 use Rattle.plain_machine.specs.Machine.{Hardware, Memory}
 use Rattle.plain_machine.specs.declared.event.IdentCheck.{IdentCheck}
-use Rattle.command_laws.specs.Resumptions.{HasResumed}
+use Rattle.command_core.specs.Resumptions.{HasResumed}
 use Rattle.command_core.specs.declared.ending.Ended.{Ended}
 use Rattle.overlay_disk.specs.DiskState.{DiskState}
 use Rattle.overlay_disk.specs.Overlaid.{content_over}

@@ -16,7 +16,7 @@ use Rattle.swsusp_cli.specs.Replay.{LieBelow}
 use Rattle.swsusp_cli.specs.Outcome.{IsScript}
 use Rattle.swsusp_cli.specs.Replay.{AreReplies}
 use Rattle.swsusp_cli.proofs.Prints.{fails_early, printed_then, whole_still}
-use Rattle.world_runs.proofs.Counted.{risen_earlier}
+use Rattle.command_core.proofs.Counted.{risen_earlier}
 use Rattle.machine_cli.specs.Drawn.{Draws, IsDrawn, cut_off, drawn}
 
 -- All events were played and the picture is whole, and the ends of the texts are printed, or a sink fails there.

@@ -6,8 +6,8 @@ use Rattle.plain_machine.specs.Trace.{trace, restored_in}
 use Rattle.plain_machine.specs.declared.event.IdentCheck.{IdentCheck}
 use Rattle.plain_machine.specs.declared.event.Loader.TheVariants.{Table}
 use Rattle.plain_machine.specs.declared.reply.Reply.TheVariants as reply
-use Rattle.command_laws.specs.Hibernations.{EndsInFault}
-use Rattle.command_laws.specs.Resumptions.{IsLast}
+use Rattle.command_core.specs.Hibernations.{EndsInFault}
+use Rattle.command_core.specs.Resumptions.{IsLast}
 use Rattle.command_core.specs.declared.ending.Ended.{Ended}
 
 -- The answer over a disk that reads as v: the last reply of a resume's trace, unless a call of the disk has failed. If

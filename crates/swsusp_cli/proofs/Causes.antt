@@ -5,7 +5,7 @@ use Rattle.command_kit.proofs.Causes.{cause_since}
 use Rattle.command_kit.specs.Causes.{HasCause}
 use Rattle.command_kit.specs.declared.status.Status.{Status}
 use Rattle.command_kit.specs.declared.status.Status.TheVariants.{Done, Refused, Words, Input, Stream, Device, Memory}
-use Rattle.world_runs.proofs.Counted.{risen_earlier}
+use Rattle.command_core.proofs.Counted.{risen_earlier}
 
 device_other : Device ≡ Stream → ⊥
 device_other same = cc

@@ -8,7 +8,7 @@ use Rattle.script.specs.Drill.{drill_script}
 use Rattle.command_kit.specs.Told.{memory_told}
 use Rattle.swsusp_cli.specs.Drills.{IsDrilled, out_of_memory, too_small, unformatted, summed, summary_told}
 use Rattle.swsusp_cli.specs.Outcome.{Tells, small_told, unformatted_told}
-use Rattle.world_runs.specs.Turns.{AreCounted}
+use Rattle.command_core.specs.Turns.{AreCounted}
 use Rattle.swsusp_cli.specs.SettingUp.{IsNotSetUp, unready_told}
 use Rattle.command_kit.specs.View.{View}
 use Rattle.command_words.specs.Words.{Asked, drill}
@@ -18,7 +18,7 @@ use Rattle.command_kit.specs.declared.status.Status.{Status}
 use Rattle.command_kit.specs.declared.status.Status.TheVariants.{Stream}
 use Rattle.swsusp_cli.proofs.Prints.{AreFlushed, told_flushed}
 use Rattle.swsusp_cli.proofs.Replays.{not_formatted, small_disk}
-use Rattle.world_runs.proofs.Counted.{counted_later, risen_earlier}
+use Rattle.command_core.proofs.Counted.{counted_later, risen_earlier}
 
 pub drill_not_set_up : (number : ℕ) (x x' : View) (status : Status) (why : Unready) → IsNotSetUp (drill_script number) x.disk x'.disk why → Tells (unready_told why) status x x' → IsDrilled number x x' status
 drill_not_set_up number x x' status (Small blocks need) few told = too_small (small_disk x x' status (drill_script number) blocks need few told)

@@ -23,7 +23,7 @@ use Rattle.command_kit.specs.Told.{done}
 use Rattle.swsusp_cli.specs.Outcome.{IsScript, IsReplayed, IsTooSmall, IsUnformatted, IsUnplayed, Tells, too_small, unformatted, played, cut_off, small_told, unformatted_told}
 use Rattle.swsusp_cli.specs.Playing.{HasPlayed, Played}
 use Rattle.swsusp_cli.specs.Replay.{orders_of, IsRun, IsNoSlot, AreReplies, Prints}
-use Rattle.world_runs.specs.Turns.{is_step, steps_of}
+use Rattle.command_core.specs.Turns.{is_step, steps_of}
 use Rattle.swsusp_cli.specs.SettingUp.{FailsToSetUp, HasTooFew, IsNotSetUp, IsSetUp, IsFailedCall as IsOfCall, unready_told}
 use Rattle.command_kit.specs.Told.{AreFronts, IsTold, IsTried, sink_note}
 use Rattle.command_kit.specs.View.{View, DiskView, SinkView}
@@ -31,10 +31,10 @@ use Rattle.swsusp_cli.specs.declared.formatting.Unformatted.{Unformatted}
 use Rattle.swsusp_cli.specs.declared.setting_up.Unready.{Unready}
 use Rattle.swsusp_cli.specs.declared.setting_up.Unready.TheVariants.{Small, Unformatted as NotFormatted}
 use Rattle.command_kit.specs.declared.status.Status.{Status}
-use Rattle.world_runs.proofs.Leaving.{leaves_then}
+use Rattle.command_core.proofs.Leaving.{leaves_then}
 use Rattle.swsusp_cli.proofs.Formatted.{CanFormat, formatted_unmarked, formats_leaves}
 use Rattle.swsusp_cli.proofs.Prints.{printed_then, whole_still, fails_early}
-use Rattle.world_runs.proofs.Counted.{counted_earlier, risen_earlier}
+use Rattle.command_core.proofs.Counted.{counted_earlier, risen_earlier}
 use Rattle.swsusp_cli.proofs.Turns.{whole_of}
 use Rattle.protocol_laws.proofs.Told.{changed}
 

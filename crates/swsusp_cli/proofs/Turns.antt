@@ -24,10 +24,10 @@ use Rattle.world_core.specs.World.{World}
 use Rattle.swsusp_cli.specs.Playing.{Played, HasPlayed}
 use Rattle.swsusp_cli.specs.Replay.{orders_of}
 use Rattle.sector_disk.specs.declared.orders.Order.{Order}
-use Rattle.world_runs.specs.Turns.{AreCounted}
-use Rattle.world_runs.proofs.Counted.{called_one, counted_append, counted_one, counted_later, steps_append}
+use Rattle.command_core.specs.Turns.{AreCounted}
+use Rattle.command_core.proofs.Counted.{called_one, counted_append, counted_one, counted_later, steps_append}
 use Rattle.command_kit.specs.View.{DiskView}
-use Rattle.world_runs.proofs.Leaving.{leaves_then}
+use Rattle.command_core.proofs.Leaving.{leaves_then}
 use Rattle.protocol_laws.proofs.ReplaySteps.{same_steps, stays_of_replay}
 use Rattle.swsusp_cli.proofs.Blocks.{unwritten_here}
 use Rattle.protocol_laws.proofs.Same.{same_area}

@@ -10,7 +10,7 @@ use Rattle.protocol_laws.specs.Rows.{IsSameArea, LeavesBlock}
 use Rattle.world_core.specs.StandsFor.{StandsFor, hardware_of}
 use Rattle.world_core.specs.World.{World}
 use Rattle.swsusp_cli.specs.Replay.{IsNoSlot, orders_of}
-use Rattle.world_runs.specs.Turns.{AreCounted, steps_of}
+use Rattle.command_core.specs.Turns.{AreCounted, steps_of}
 use Rattle.command_kit.specs.View.{DiskView}
 
 -- From the state a and the content c, the events gave these replies and led to b and c', for which the world stands.

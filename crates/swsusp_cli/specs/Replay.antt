@@ -14,7 +14,7 @@ use Rattle.plain_machine.specs.declared.reply.Reply.{Reply}
 use Rattle.protocol_laws.specs.Rows.{LeavesBlock}
 use Rattle.sector_disk.specs.declared.orders.Order.{Order}
 use Rattle.world_core.specs.Orders.{orders_after}
-use Rattle.world_runs.specs.Turns.{AreCounted, steps_of}
+use Rattle.command_core.specs.Turns.{AreCounted, steps_of}
 use Rattle.script.specs.Grammar.{ScriptValue}
 use Rattle.script.specs.Kinds.{kind_name}
 use Rattle.script.specs.declared.fault.ScriptFault.{ScriptFault}

@@ -14,9 +14,9 @@ use Rattle.plain_machine.specs.declared.event.IdentCheck.{IdentCheck}
 use Rattle.protocol_laws.proofs.Inside.{taken_itself}
 use Rattle.sector_disk.specs.declared.disk.Disk.{Ghosts}
 use Rattle.command_core.specs.declared.ending.Ended.{Ended}
-use Rattle.command_laws.specs.Hibernations.{IsUnmarkedOrHolds, image_to_save, machine_to_save}
-use Rattle.command_laws.proofs.Hibernated.{hibernation_inside}
-use Rattle.command_laws.proofs.Resumed.{resumption_inside}
+use Rattle.command_core.specs.Hibernations.{IsUnmarkedOrHolds, image_to_save, machine_to_save}
+use Rattle.command_core.proofs.Hibernated.{hibernation_inside}
+use Rattle.command_core.proofs.Resumed.{resumption_inside}
 use Rattle.command_kit.specs.View.{View}
 use Rattle.command_kit.specs.declared.status.Status.{Status}
 use Rattle.swsusp_cli.specs.Dumps as dumps

@@ -28,12 +28,12 @@ use Rattle.protocol_laws.proofs.Tracing.{restored_is, traces_own}
 use Rattle.sector_disk.specs.declared.disk.Disk.{Ghosts}
 use Rattle.command_core.specs.Runs.{goes_on}
 use Rattle.command_core.specs.declared.ending.Ended.{Ended}
-use Rattle.command_laws.specs.Hibernations.{EndsInFault, HasHibernated, image_to_save, machine_to_save}
-use Rattle.command_laws.specs.Resumptions.{HasResumed as IsResumed, IsLast, MayLeaveMark}
-use Rattle.command_laws.proofs.Hibernated.{has_hibernated, original_kept}
-use Rattle.command_laws.proofs.Resumed.{has_resumed, resumption_taken}
-use Rattle.command_laws.proofs.Saved.{Refuses, refusal_refuses}
-use Rattle.command_laws.proofs.Traces.{counted_at, trace_counts}
+use Rattle.command_core.specs.Hibernations.{EndsInFault, HasHibernated, image_to_save, machine_to_save}
+use Rattle.command_core.specs.Resumptions.{HasResumed as IsResumed, IsLast, MayLeaveMark}
+use Rattle.command_core.proofs.Hibernated.{has_hibernated, original_kept}
+use Rattle.command_core.proofs.Resumed.{has_resumed, resumption_taken}
+use Rattle.command_core.proofs.Saved.{Refuses, refusal_refuses}
+use Rattle.command_core.proofs.Traces.{counted_at, trace_counts}
 use Rattle.command_kit.specs.View.{View}
 use Rattle.command_kit.specs.declared.status.Status.{Status}
 use Rattle.dump_file.specs.Dump.{DumpValue}

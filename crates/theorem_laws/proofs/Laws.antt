@@ -16,7 +16,7 @@ use Rattle.theorem_laws.specs.Sleeps.{NeverBothGoOn}
 use Rattle.theorem_laws.proofs.AtomicCopy.{all_restore}
 use Rattle.theorem_laws.proofs.Once.{resumed_once}
 use Rattle.theorem_laws.proofs.Sleeps.{never_both}
-use Rattle.world_runs.specs.Turns.{steps_of}
+use Rattle.command_core.specs.Turns.{steps_of}
 use Rattle.swsusp_cli.specs.Drills as drills
 use Rattle.swsusp_cli.specs.Drills.{IsDrilled}
 use Rattle.swsusp_cli.specs.Replay.{calls_until}

@@ -5,7 +5,7 @@ use Rattle.plain_machine.specs.Machine.{Hardware}
 use Rattle.plain_machine.specs.Shows.{WorldView}
 use Rattle.plain_machine.specs.Stands.{IsHeld, Stands}
 use Rattle.plain_machine.specs.State.{Held, State, held_in, nothing, sure, maybe, own, other}
-use Rattle.command_laws.proofs.Crashes.{held_by}
+use Rattle.command_core.proofs.Crashes.{held_by}
 use Rattle.theorem_laws.specs.Marks.{IsThereWhereMarked}
 
 there_where_held : (h : Hardware) (c : disk.Content) (held : Held) → IsHeld h c held → IsThereWhereMarked h c held

@@ -7,7 +7,7 @@ use Rattle.dump_file.specs.Dump.{DumpValue, dump_of}
 use Rattle.plain_machine.specs.Chain.{Marked}
 use Rattle.plain_machine.specs.Stands.{IsSameOrTakenBack}
 use Rattle.plain_machine.specs.UsableArea.{HasOriginal}
-use Rattle.command_laws.specs.Hibernations.{IsUnmarkedOrHolds, image_to_save, machine_to_save}
+use Rattle.command_core.specs.Hibernations.{IsUnmarkedOrHolds, image_to_save, machine_to_save}
 
 -- Over a disk that had one image, which wasn't marked, a crash since a hibernation began leaves a disk that isn't
 -- marked, or that holds the image of the dump that was read. `left` is the rest of the input, `told` what the disk

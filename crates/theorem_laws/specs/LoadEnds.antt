@@ -7,7 +7,7 @@ use Rattle.plain_machine.specs.State.{Load, Found, not_yet, found_own, found_oth
 use Rattle.plain_machine.specs.Trace.{trace}
 use Rattle.plain_machine.specs.declared.reply.Reply.{Reply}
 use Rattle.plain_machine.specs.declared.reply.Reply.TheVariants as reply
-use Rattle.command_laws.specs.Hibernations.{EndsInFault}
+use Rattle.command_core.specs.Hibernations.{EndsInFault}
 
 abbrev pub IsLoading : Reply → Type 0
 IsLoading r = (k : ℕ) × (r ≡ reply.Loading k)

@@ -3,7 +3,7 @@ use Rattle.std.proofs.lemmas.Bool.{false≢true}
 use Rattle.plain_machine.specs.declared.event.Actor.TheVariants as actor
 use Rattle.plain_machine.specs.declared.event.Event.TheVariants as event
 use Rattle.protocol_laws.specs.Rows.{TellsNewFault}
-use Rattle.world_runs.proofs.Playing.{played_one}
+use Rattle.command_core.proofs.Playing.{played_one}
 use Rattle.command_core.proofs.Counting.{risen_then}
 use Rattle.command_core.specs.Runs.{goes_on}
 use Rattle.command_core.proofs.Closer.{calls_cost, calls_of_all, work_less}

@@ -2,7 +2,7 @@ use Rattle.std.proofs.Common.{sym, ◌∙◌}
 use Rattle.plain_machine.specs.declared.event.Actor.TheVariants as actor
 use Rattle.plain_machine.specs.declared.event.BootFrom.TheVariants.{Kept}
 use Rattle.plain_machine.specs.declared.event.Event.TheVariants as event
-use Rattle.world_runs.proofs.Playing.{played_one}
+use Rattle.command_core.proofs.Playing.{played_one}
 use Rattle.command_core.proofs.Runs.{boots_unsynced, boots_unread, boots_up}
 use Rattle.command_core.proofs.hibernation.boot.Goals as goal
 

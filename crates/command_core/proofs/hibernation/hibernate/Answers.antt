@@ -1,5 +1,5 @@
 use Rattle.plain_machine.specs.declared.event.Event.TheVariants as event
-use Rattle.world_runs.proofs.Playing.{played_one}
+use Rattle.command_core.proofs.Playing.{played_one}
 use Rattle.command_core.proofs.Runs.{asked, only_one, ran}
 use Rattle.command_core.proofs.hibernation.hibernate.Goals as goal
 use Rattle.std.proofs.Common.{inl}

@@ -1,7 +1,7 @@
 use Rattle.std.proofs.Common.{ℕ, Ok, Option, sym, subst}
 use Rattle.command_core.specs.Parts.{Starts}
 use Rattle.plain_machine.specs.declared.event.Event.TheVariants as event
-use Rattle.world_runs.proofs.Playing.{played_one}
+use Rattle.command_core.proofs.Playing.{played_one}
 use Rattle.command_core.proofs.Runs.{starts_shrunk}
 use Rattle.command_core.proofs.hibernation.start.Goals as goal
 

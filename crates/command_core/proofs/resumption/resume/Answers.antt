@@ -1,6 +1,6 @@
 use Rattle.plain_machine.specs.declared.event.Event.TheVariants as event
 use Rattle.plain_machine.specs.declared.event.Loader.TheVariants.{Table}
-use Rattle.world_runs.proofs.Playing.{played_one}
+use Rattle.command_core.proofs.Playing.{played_one}
 use Rattle.command_core.proofs.Closer.{few_of_resume}
 use Rattle.command_core.proofs.Runs.{only_one, ran, resumed}
 use Rattle.command_core.proofs.resumption.resume.Goals as goal

@@ -7,7 +7,7 @@ use Rattle.run_picture.specs.Lanes.{first}
 use Rattle.run_picture.specs.Picture.{columns, foot, head, pictured}
 use Rattle.swsusp_cli.specs.Playing.{HasPlayed}
 use Rattle.command_kit.specs.View.{DiskView}
-use Rattle.world_runs.proofs.Counted.{risen_earlier}
+use Rattle.command_core.proofs.Counted.{risen_earlier}
 use Rattle.swsusp_cli.proofs.Turns.{played_none}
 use Rattle.machine_cli.proofs.drawing.draw_run.Goals as goal
 

@@ -1,7 +1,7 @@
 use Rattle.std.proofs.Common.{arith}
 use Rattle.definitions.specs.Disk.{as_it_reads}
 use Rattle.world_core.specs.StandsFor.{hardware_of, shown}
-use Rattle.command_laws.proofs.Resumed.{has_resumed}
+use Rattle.command_core.proofs.Resumed.{has_resumed}
 use Rattle.machine_cli.proofs.Foretelling.{told_over, foretells}
 use Rattle.machine_cli.proofs.dry.check.resume_over.Goals as goal
 

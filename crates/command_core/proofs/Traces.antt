@@ -15,7 +15,7 @@ use Rattle.plain_machine.specs.declared.reply.Reply.{Reply}
 use Rattle.plain_machine.specs.declared.reply.Reply.TheVariants as reply
 use Rattle.plain_machine.proofs.Traces.{causes_count, causes_at}
 use Rattle.protocol_laws.proofs.Stopping.{Stops, is_no_stop, stops_cause, stops_taken_back}
-use Rattle.command_laws.specs.Resumptions.{IsLast}
+use Rattle.command_core.specs.Resumptions.{IsLast}
 use Rattle.command_core.specs.Runs.{goes_on}
 
 -- each reply but the last is Loading, with the numbers from k on

@@ -8,8 +8,8 @@ use Rattle.plain_machine.specs.declared.reply.Reply.{Reply}
 use Rattle.sector_disk.specs.declared.disk.Disk.{Ghosts}
 use Rattle.world_core.specs.StandsFor.{StandsFor, hardware_of, shown}
 use Rattle.world_core.specs.World.{World}
-use Rattle.world_runs.specs.Turns.{AreCounted, steps_of}
-use Rattle.world_runs.specs.Turns.{Situation, AreTurns, IsLeftInside, end_of}
+use Rattle.command_core.specs.Turns.{AreCounted, steps_of}
+use Rattle.command_core.specs.Turns.{Situation, AreTurns, IsLeftInside, end_of}
 
 -- the situation of a world with its disk, which stand for this state
 abbrev pub situation_of : World → disk.Content → State → Situation

@@ -14,7 +14,7 @@ use Rattle.plain_machine.specs.declared.reply.Reply.TheVariants as reply
 use Rattle.protocol_laws.specs.Rows.{LeavesBlock}
 use Rattle.command_core.specs.Runs.{goes_on}
 use Rattle.command_core.specs.declared.ending.Ended.{Ended}
-use Rattle.command_laws.specs.Hibernations.{EndsInFault}
+use Rattle.command_core.specs.Hibernations.{EndsInFault}
 
 -- this is the last of the replies
 abbrev pub IsLast : List Reply → Reply → Type 0

@@ -5,11 +5,11 @@ use Rattle.plain_machine.specs.Machine.{Hardware}
 use Rattle.plain_machine.specs.Stands.{Stands}
 use Rattle.plain_machine.specs.declared.event.Event.{Event}
 use Rattle.plain_machine.specs.declared.reply.Reply.{Reply}
-use Rattle.world_runs.specs.Turns.{Situation, AreTurns, end_of}
+use Rattle.command_core.specs.Turns.{Situation, AreTurns, end_of}
 use Rattle.command_core.specs.Runs.{AreStepped, core_steps, last_reply}
 use Rattle.command_core.specs.declared.ending.Ended.{Ended}
-use Rattle.command_laws.specs.Points.{HasGone}
-use Rattle.command_laws.proofs.Walking.{point, walked}
+use Rattle.command_core.specs.Points.{HasGone}
+use Rattle.command_core.proofs.Walking.{point, walked}
 
 -- what there is at the end stands for the last state
 pub stands_at_end : (h : Hardware) (p : Situation) (events : List Event) (replies : List Reply) (through : List Situation) → Stands h p.shown p.content p.state → AreTurns h p events replies through → Stands h (end_of p through).shown (end_of p through).content (end_of p through).state

@@ -18,18 +18,18 @@ use Rattle.plain_machine.specs.declared.reply.Reply.TheVariants as reply
 use Rattle.plain_machine.specs.State.{Running}
 use Rattle.protocol_laws.specs.Rows.{TellsNewFault, blocks_written}
 use Rattle.sector_disk.specs.declared.disk.Disk.{Ghosts}
-use Rattle.world_runs.specs.Turns.{Situation, AreTurns, IsLeftInside, end_of}
+use Rattle.command_core.specs.Turns.{Situation, AreTurns, IsLeftInside, end_of}
 use Rattle.command_core.specs.Runs.{AreStepped, IsAsked, IsHibernation, RunsOver, boot_events, core_steps, goes_on, held_at_first, is_booted, shrink_events}
 use Rattle.command_core.specs.declared.ending.Ended.{Ended}
-use Rattle.command_laws.specs.Hibernations.{HasHibernated, IsUnmarkedOrHolds, image_to_save, machine_of_dump, machine_to_save}
-use Rattle.command_laws.specs.Points.{Point}
-use Rattle.command_laws.proofs.Begun.{IsUntouched, RunsUntouched, untouched_first, untouched_then, untouched_at, save_writes, boots_first, boots_second, boots_third, up_shrunk, step_from}
-use Rattle.command_laws.proofs.Booting.{hibernation_begins}
-use Rattle.command_laws.proofs.Crashes.{header_by, never_inside, saves_inside, untouched_inside}
-use Rattle.command_laws.proofs.Ending.{has_gone, stands_at_end}
-use Rattle.command_laws.proofs.Hibernating.{IsAt}
-use Rattle.command_laws.proofs.Saved.{failed_early, refused, saves}
-use Rattle.command_laws.proofs.Walking.{point, turn_at, walked_inside}
+use Rattle.command_core.specs.Hibernations.{HasHibernated, IsUnmarkedOrHolds, image_to_save, machine_of_dump, machine_to_save}
+use Rattle.command_core.specs.Points.{Point}
+use Rattle.command_core.proofs.Begun.{IsUntouched, RunsUntouched, untouched_first, untouched_then, untouched_at, save_writes, boots_first, boots_second, boots_third, up_shrunk, step_from}
+use Rattle.command_core.proofs.Booting.{hibernation_begins}
+use Rattle.command_core.proofs.Crashes.{header_by, never_inside, saves_inside, untouched_inside}
+use Rattle.command_core.proofs.LastReplies.{has_gone, stands_at_end}
+use Rattle.command_core.proofs.Hibernating.{IsAt}
+use Rattle.command_core.proofs.Saved.{failed_early, refused, saves}
+use Rattle.command_core.proofs.Walking.{point, turn_at, walked_inside}
 
 -- A run that begins over the disk v, with the machine off.
 record Begins (h : Hardware) (m : Memory) (v : disk.DiskImage) (blocks : ℕ) (p : Situation) : Type 0 where

@@ -17,9 +17,9 @@ use Rattle.sector_disk.specs.declared.disk.Disk.{Ghosts}
 use Rattle.world_core.specs.Row.{SimulatesWhereTold, Restores, CallsAtMostOnce, IsNoCut}
 use Rattle.world_core.specs.StandsFor.{StandsFor, hardware_of, shown}
 use Rattle.world_core.specs.World.{World}
-use Rattle.world_runs.specs.Played.{Leads, Passes, Played, situation_of}
-use Rattle.world_runs.specs.Turns.{AreTurns, IsLeftInside, Situation, end_of}
-use Rattle.world_runs.proofs.Counted.{called_one, counted_append, counted_one, steps_append}
+use Rattle.command_core.specs.Played.{Leads, Passes, Played, situation_of}
+use Rattle.command_core.specs.Turns.{AreTurns, IsLeftInside, Situation, end_of}
+use Rattle.command_core.proofs.Counted.{called_one, counted_append, counted_one, steps_append}
 
 -- Situations after situations.
 

@@ -15,15 +15,15 @@ use Rattle.plain_machine.specs.declared.reply.Reply.TheVariants as reply
 use Rattle.protocol_laws.specs.Rows.{blocks_written}
 use Rattle.protocol_laws.proofs.Inside.{taken_itself}
 use Rattle.sector_disk.specs.declared.disk.Disk.{Ghosts}
-use Rattle.world_runs.specs.Turns.{Situation, Turn, AreTurns, IsLeftInside, end_of}
+use Rattle.command_core.specs.Turns.{Situation, Turn, AreTurns, IsLeftInside, end_of}
 use Rattle.command_core.specs.Runs.{AreStepped, IsResumption, RunsOver, core_steps, held_at_first}
 use Rattle.command_core.specs.declared.ending.Ended.{Ended}
-use Rattle.command_laws.specs.Resumptions.{HasResumed}
-use Rattle.command_laws.proofs.Begun.{IsUntouched, untouched_first, untouched_then, untouched_at, off_writes, step_from}
-use Rattle.command_laws.proofs.Crashes.{resumes_inside, taken_steps, untouched_inside}
-use Rattle.command_laws.proofs.Ending.{has_gone}
-use Rattle.command_laws.proofs.Loaded.{resume_begins, begins_at, resumes}
-use Rattle.command_laws.proofs.Walking.{point, turn_at, walked_inside}
+use Rattle.command_core.specs.Resumptions.{HasResumed}
+use Rattle.command_core.proofs.Begun.{IsUntouched, untouched_first, untouched_then, untouched_at, off_writes, step_from}
+use Rattle.command_core.proofs.Crashes.{resumes_inside, taken_steps, untouched_inside}
+use Rattle.command_core.proofs.LastReplies.{has_gone}
+use Rattle.command_core.proofs.Loaded.{resume_begins, begins_at, resumes}
+use Rattle.command_core.proofs.Walking.{point, turn_at, walked_inside}
 
 module _ (h : Hardware) (m : Memory) (check : IdentCheck) (v : disk.DiskImage) (blocks : ℕ) (p : Situation) (state : p.state ≡ off (held_at_first h v) (Some m)) (content : p.content ≡ disk.settled v) (whole : disk.IsContent blocks (disk.settled v)) where
   first_untouched : IsUntouched v (point reply.Idle true p)

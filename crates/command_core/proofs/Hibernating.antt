@@ -19,7 +19,7 @@ use Rattle.plain_machine.specs.declared.reply.UndoCall.{UndoCall}
 use Rattle.plain_machine.specs.declared.reply.UndoCall.TheVariants as undo
 use Rattle.plain_machine.proofs.PastEnd.{hibernate-past}
 use Rattle.protocol_laws.specs.Rows.{TellsNewFault}
-use Rattle.command_laws.specs.Points.{Point, AreSteps}
+use Rattle.command_core.specs.Points.{Point, AreSteps}
 use Rattle.command_core.specs.Runs.{goes_on}
 
 -- what a hibernation of this image is at after n steps

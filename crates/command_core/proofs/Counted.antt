@@ -8,7 +8,7 @@ use Rattle.plain_machine.specs.declared.event.Event.TheVariants as event
 use Rattle.plain_machine.specs.declared.reply.Reply.{Reply}
 use Rattle.protocol_laws.specs.Rows.{TellsNewFault}
 use Rattle.world_core.specs.Row.{IsStep, CallsAtMostOnce}
-use Rattle.world_runs.specs.Turns.{is_step, steps_of, AreCounted}
+use Rattle.command_core.specs.Turns.{is_step, steps_of, AreCounted}
 
 -- Faults.
 

@@ -25,14 +25,14 @@ use Rattle.plain_machine.specs.Step.{Step, Outcome, undo_step}
 use Rattle.protocol_laws.specs.Rows.{LeavesBlock, blocks_written, TellsNewFault}
 use Rattle.protocol_laws.proofs.Unwritten.{step_in_laid}
 use Rattle.protocol_laws.proofs.WrittenWhileHeld.{header_alone}
-use Rattle.command_laws.specs.Hibernations.{HasHibernated}
+use Rattle.command_core.specs.Hibernations.{HasHibernated}
 use Rattle.command_core.specs.Runs.{goes_on}
-use Rattle.command_laws.specs.Hibernations.{EndsInFault, hibernation_answer, image_to_save}
-use Rattle.command_laws.specs.Points.{Point, AreSteps, HasGone}
+use Rattle.command_core.specs.Hibernations.{EndsInFault, hibernation_answer, image_to_save}
+use Rattle.command_core.specs.Points.{Point, AreSteps, HasGone}
 use Rattle.command_core.specs.declared.ending.Ended.{Ended}
-use Rattle.command_laws.proofs.Begun.{IsUntouched}
-use Rattle.command_laws.proofs.Hibernating.{IsAt, after_steps, undoing_step}
-use Rattle.world_runs.proofs.Leaving.{leaves_then}
+use Rattle.command_core.proofs.Begun.{IsUntouched}
+use Rattle.command_core.proofs.Hibernating.{IsAt, after_steps, undoing_step}
+use Rattle.command_core.proofs.Leaving.{leaves_then}
 
 -- Refusals of a hibernation are none of the replies of its steps.
 

@@ -11,10 +11,10 @@ use Rattle.plain_machine.specs.declared.reply.Reply.{Reply}
 use Rattle.plain_machine.specs.declared.reply.Reply.TheVariants as reply
 use Rattle.protocol_laws.specs.Rows.{TellsNewFault}
 use Rattle.protocol_laws.proofs.WrittenWhileHeld.{at_written}
-use Rattle.world_runs.specs.Turns as turns
-use Rattle.world_runs.specs.Turns.{Situation, Turn, AreTurns, end_of}
+use Rattle.command_core.specs.Turns as turns
+use Rattle.command_core.specs.Turns.{Situation, Turn, AreTurns, end_of}
 use Rattle.command_core.specs.Runs.{GoOn, HasNewFault, core_steps, goes_on, last_reply}
-use Rattle.command_laws.specs.Points.{Point, IsTurn, AreSteps, IsLeftInside}
+use Rattle.command_core.specs.Points.{Point, IsTurn, AreSteps, IsLeftInside}
 
 abbrev pub point : Reply → Bool → Situation → Point
 point r failed p = record { reply = r; failed = failed; state = p.state; content = p.content; frames = p.shown.frames }

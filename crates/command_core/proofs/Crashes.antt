@@ -27,15 +27,15 @@ use Rattle.protocol_laws.specs.Rows.{LeavesBlock, LeavesHeader, blocks_written, 
 use Rattle.protocol_laws.proofs.Back.{held_before, held_behind, before_mark}
 use Rattle.protocol_laws.proofs.Unwritten.{mark_at, none_past}
 use Rattle.protocol_laws.proofs.Inside.{left_candidate, image_left, images_left, mark_inside, undo_inside, none_marked, AreTakenBack, taken_inside, taken_itself, taken_after}
-use Rattle.command_laws.specs.Points.{Point, StandsAt, IsTurn, AreSteps, IsLeftInside}
+use Rattle.command_core.specs.Points.{Point, StandsAt, IsTurn, AreSteps, IsLeftInside}
 use Rattle.command_core.specs.Runs.{goes_on}
-use Rattle.command_laws.proofs.Begun.{IsUntouched}
-use Rattle.command_laws.proofs.Hibernating.{IsAt, after_steps, hibernating_step, before_end}
-use Rattle.command_laws.proofs.Loaded.{early_writes, goes_state, after_steps as loaded_after, IsAfter, header_alone as load_writes}
-use Rattle.world_runs.proofs.Leaving.{inside_of}
-use Rattle.command_laws.proofs.Points.{each_same}
-use Rattle.command_laws.proofs.Resuming.{IsAt as LoadsAt, state_at}
-use Rattle.command_laws.proofs.Saved.{IsWrittenAt, state_of, all_after, refuses_over, refusal_refuses, none_after}
+use Rattle.command_core.proofs.Begun.{IsUntouched}
+use Rattle.command_core.proofs.Hibernating.{IsAt, after_steps, hibernating_step, before_end}
+use Rattle.command_core.proofs.Loaded.{early_writes, goes_state, after_steps as loaded_after, IsAfter, header_alone as load_writes}
+use Rattle.command_core.proofs.Leaving.{inside_of}
+use Rattle.command_core.proofs.Points.{each_same}
+use Rattle.command_core.proofs.Resuming.{IsAt as LoadsAt, state_at}
+use Rattle.command_core.proofs.Saved.{IsWrittenAt, state_of, all_after, refuses_over, refusal_refuses, none_after}
 
 -- What stands for a state says of its disk.
 

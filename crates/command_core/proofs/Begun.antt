@@ -14,11 +14,11 @@ use Rattle.plain_machine.specs.declared.event.Event.TheVariants as event
 use Rattle.protocol_laws.specs.Rows.{LeavesBlock, TellsNewFault, blocks_written, out_block}
 use Rattle.protocol_laws.proofs.Unwritten.{block_same}
 use Rattle.command_core.specs.Runs.{goes_on, held_at_first, is_booted}
-use Rattle.command_laws.specs.Hibernations.{EndsInFault, machine_of_dump, machine_to_save}
-use Rattle.command_laws.specs.Points.{Point, IsTurn}
-use Rattle.command_laws.proofs.Booting.{boot_begins, boot_syncs, boot_ends, shrinks}
-use Rattle.world_runs.proofs.Leaving.{leaves_then}
-use Rattle.command_laws.proofs.Points.{reads_same}
+use Rattle.command_core.specs.Hibernations.{EndsInFault, machine_of_dump, machine_to_save}
+use Rattle.command_core.specs.Points.{Point, IsTurn}
+use Rattle.command_core.proofs.Booting.{boot_begins, boot_syncs, boot_ends, shrinks}
+use Rattle.command_core.proofs.Leaving.{leaves_then}
+use Rattle.command_core.proofs.Points.{reads_same}
 
 -- Over the disk v, which begins with one image, nothing was written so far.
 pub record IsUntouched (v : disk.DiskImage) (p : Point) : Type 0 where

@@ -20,8 +20,8 @@ use Rattle.plain_machine.specs.declared.reply.Reply.{Reply}
 use Rattle.plain_machine.specs.declared.reply.Reply.TheVariants as reply
 use Rattle.protocol_laws.specs.Rows.{TellsNewFault}
 use Rattle.command_core.specs.Runs.{goes_on, held_at_first}
-use Rattle.command_laws.specs.Hibernations.{EndsInFault}
-use Rattle.command_laws.proofs.Traces.{counted_at, trace_counts}
+use Rattle.command_core.specs.Hibernations.{EndsInFault}
+use Rattle.command_core.proofs.Traces.{counted_at, trace_counts}
 use Rattle.protocol_laws.specs.TraceAt.{reply_at}
 use Rattle.protocol_laws.proofs.TraceAt.{past_more, first_reply, traces_at}
 use Rattle.definitions.specs.SwapHeader.{flags_of}

@@ -23,17 +23,17 @@ use Rattle.plain_machine.specs.Step.{Step, outcomes}
 use Rattle.protocol_laws.proofs.WrittenWhileHeld.{header_of_load}
 use Rattle.protocol_laws.specs.Rows.{LeavesBlock, blocks_written, TellsNewFault}
 use Rattle.command_core.specs.Runs.{goes_on, held_at_first}
-use Rattle.command_laws.specs.Hibernations.{EndsInFault}
-use Rattle.command_laws.specs.Resumptions.{IsLast, MayLeaveMark, HasResumed}
-use Rattle.command_laws.specs.Points.{Point, IsTurn, AreSteps, HasGone}
+use Rattle.command_core.specs.Hibernations.{EndsInFault}
+use Rattle.command_core.specs.Resumptions.{IsLast, MayLeaveMark, HasResumed}
+use Rattle.command_core.specs.Points.{Point, IsTurn, AreSteps, HasGone}
 use Rattle.command_core.specs.declared.ending.Ended.{Ended}
-use Rattle.command_laws.proofs.Begun.{IsUntouched, untouched_then, reads_first}
-use Rattle.command_laws.proofs.Booting.{one_outcome}
-use Rattle.world_runs.proofs.Leaving.{leaves_then}
+use Rattle.command_core.proofs.Begun.{IsUntouched, untouched_then, reads_first}
+use Rattle.command_core.proofs.Booting.{one_outcome}
+use Rattle.command_core.proofs.Leaving.{leaves_then}
 use Rattle.plain_machine.specs.declared.reply.Left.TheVariants.{Same, Gone, Unsure}
-use Rattle.command_laws.proofs.Resuming.{IsAt, HasGoneOn, LeavesOff, FaultLeaves, begun, found, state_at, trace_of, step_more, first_entry, second_entry}
-use Rattle.command_laws.proofs.Saved.{exactly, faults_stop}
-use Rattle.command_laws.proofs.Traces.{counted_at, trace_counts, header_over}
+use Rattle.command_core.proofs.Resuming.{IsAt, HasGoneOn, LeavesOff, FaultLeaves, begun, found, state_at, trace_of, step_more, first_entry, second_entry}
+use Rattle.command_core.proofs.Saved.{exactly, faults_stop}
+use Rattle.command_core.proofs.Traces.{counted_at, trace_counts, header_over}
 
 -- The event.
 

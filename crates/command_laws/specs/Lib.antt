@@ -1,3 +1,0 @@
-pub mod Hibernations
-pub mod Resumptions
-pub mod Points
