@@ -19,7 +19,7 @@ FLOORS = [
     ("What a command's machine does", ("command_core", "theorem_laws")),
     ("The plain machine, and what stands for it", ("plain_machine", "protocol_laws", "restore_laws", "image_laws")),
     ("Inputs and outputs", ("script", "dump_file", "stream_in", "stream_out", "byte_streams")),
-    ("The engine's own words", ("world_core", "hib_core", "resume_core", "sleep_core", "machine", "placement", "image_read", "image_write")),
+    ("The engine's own words", ("world_core", "hib_core", "resume_core", "machine", "placement", "image_read", "image_write")),
     ("Structures and disks", ("image_format", "sector_disk", "definitions")),
 ]
 

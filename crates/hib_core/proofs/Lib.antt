@@ -14,3 +14,6 @@ mod SettleBegin
 mod SettleRows
 pub mod Leaving
 pub mod Keeping
+mod WakingCases
+mod WakingPlain
+pub mod WakingRows

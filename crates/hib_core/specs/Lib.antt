@@ -6,3 +6,5 @@ pub mod Row
 pub mod Stepped
 pub mod StepsLeft
 pub mod Writes
+pub mod Waking
+pub mod WakingRow

@@ -9,6 +9,7 @@ mod mark;
 mod phase;
 mod settle;
 mod undo;
+pub mod waking;
 mod write;
 
 pub use hib::{Hib, Job};

@@ -17,7 +17,7 @@ use Rattle.world_core.specs.StandsFor.{StandsFor, activity_of, hardware_of, keep
 use Rattle.world_core.specs.Row.{Simulates}
 use Rattle.hib_core.specs.declared.hib.Hib.{Hib}
 use Rattle.resume_core.specs.declared.load.Load.{Load}
-use Rattle.sleep_core.specs.declared.waker.Waker.{Waker}
+use Rattle.hib_core.specs.declared.waking.waker.Waker.{Waker}
 use Rattle.std.proofs.lemmas.Bool.{false≢true}
 use Rattle.world_core.proofs.Cases.{activity_by, activity_for}
 use Rattle.protocol_laws.proofs.PowerCuts.{cuts_off, cut_keeps_area}

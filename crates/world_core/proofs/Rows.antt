@@ -39,7 +39,7 @@ use Rattle.resume_core.specs.Ready as resume_ready
 use Rattle.resume_core.specs.declared.load.Load.{Load}
 use Rattle.resume_core.specs.declared.load.Stage.{Stage as LoadStage}
 use Rattle.resume_core.specs.declared.load.Stage.TheVariants as load_stage
-use Rattle.sleep_core.specs.declared.waker.Waker.{Waker}
+use Rattle.hib_core.specs.declared.waking.waker.Waker.{Waker}
 use Rattle.world_core.specs.declared.world.Core.{Core}
 use Rattle.world_core.specs.declared.world.Core.TheVariants.{Off, Running as Runs, BootBegun, BootSynced, Hibernating, Asleep, Waking, Loading}
 use Rattle.world_core.specs.declared.world.World.TheInside.{Inside}

@@ -12,8 +12,8 @@ use Rattle.resume_core.specs.StepsLeft.{loading_steps_left, loading_steps_left_a
 use Rattle.resume_core.specs.declared.load.Load.{Load}
 use Rattle.resume_core.specs.declared.load.Stage.{Stage}
 use Rattle.resume_core.specs.declared.load.Stage.TheVariants as stage
-use Rattle.sleep_core.specs.Waking.{waking_steps_left}
-use Rattle.sleep_core.specs.declared.waker.Waker.{Waker}
+use Rattle.hib_core.specs.Waking.{waking_steps_left}
+use Rattle.hib_core.specs.declared.waking.waker.Waker.{Waker}
 use Rattle.world_core.specs.declared.world.Core.{Core}
 use Rattle.world_core.specs.StandsFor.{core_at, core_in, core_told, core_woken}
 use Rattle.world_core.specs.StepsLeft.{steps_left, steps_left_in}

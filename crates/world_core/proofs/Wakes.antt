@@ -15,10 +15,10 @@ use Rattle.protocol_laws.specs.Slots.{IsMemoryOf}
 use Rattle.machine.specs.declared.machine.Machine.{Machine}
 use Rattle.hib_core.specs.Ready.{IsSameMachine}
 use Rattle.hib_core.proofs.Leaving.{SameEntries, entries_seen}
-use Rattle.sleep_core.specs.Row as sleep_row
-use Rattle.sleep_core.specs.Waking as waked
-use Rattle.sleep_core.specs.Waking.{phase_told}
-use Rattle.sleep_core.specs.declared.phase.Phase.TheVariants.{UnderWay}
+use Rattle.hib_core.specs.WakingRow as sleep_row
+use Rattle.hib_core.specs.Waking as waked
+use Rattle.hib_core.specs.Waking.{phase_told}
+use Rattle.hib_core.specs.declared.waking.phase.Phase.TheVariants.{UnderWay}
 use Rattle.world_core.specs.declared.world.Core.{Core}
 use Rattle.world_core.specs.declared.world.Core.TheVariants.{Running as Runs, Hibernating, Asleep, Waking, Loading}
 use Rattle.world_core.specs.World.{World}

@@ -6,8 +6,8 @@ use Rattle.plain_machine.specs.declared.held.Held.TheVariants.{No}
 use Rattle.machine.specs.Running.{AreReserved, CanRun}
 use Rattle.hib_core.specs.Ready.{CanStep, IsBusy}
 use Rattle.resume_core.specs.Ready as resumption
-use Rattle.sleep_core.specs.Waking.{phase_of}
-use Rattle.sleep_core.specs.declared.phase.Phase.TheVariants.{UnderWay}
+use Rattle.hib_core.specs.Waking.{phase_of}
+use Rattle.hib_core.specs.declared.waking.phase.Phase.TheVariants.{UnderWay}
 use Rattle.world_core.specs.declared.world.Core.{Core}
 use Rattle.world_core.specs.declared.world.Core.TheVariants.{Off, Running, BootBegun, BootSynced, Hibernating, Asleep}
 use Rattle.world_core.specs.declared.world.Core.TheVariants.{Waking, Loading}

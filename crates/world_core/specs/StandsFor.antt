@@ -28,10 +28,10 @@ use Rattle.resume_core.specs.Row as resume_row
 use Rattle.resume_core.specs.declared.load.Load.{Load}
 use Rattle.resume_core.specs.declared.phase.Phase.{Phase as LoadPhase}
 use Rattle.resume_core.specs.declared.phase.Phase.TheVariants as load_phase
-use Rattle.sleep_core.specs.Waking as waking
-use Rattle.sleep_core.specs.declared.phase.Phase.{Phase as WakingPhase}
-use Rattle.sleep_core.specs.declared.phase.Phase.TheVariants as waking_phase
-use Rattle.sleep_core.specs.declared.waker.Waker.{Waker}
+use Rattle.hib_core.specs.Waking as waking
+use Rattle.hib_core.specs.declared.waking.phase.Phase.{Phase as WakingPhase}
+use Rattle.hib_core.specs.declared.waking.phase.Phase.TheVariants as waking_phase
+use Rattle.hib_core.specs.declared.waking.waker.Waker.{Waker}
 use Rattle.world_core.specs.declared.world.Core.{Core}
 use Rattle.world_core.specs.declared.world.Core.TheVariants.{Off, Running, BootBegun, BootSynced, Hibernating, Asleep}
 use Rattle.world_core.specs.declared.world.Core.TheVariants.{Waking, Loading}

@@ -10,8 +10,8 @@ use Rattle.hib_core.specs.StepsLeft.{saving_steps_left}
 use Rattle.hib_core.specs.declared.hib.Hib.{Hib}
 use Rattle.resume_core.specs.StepsLeft.{loading_steps_left}
 use Rattle.resume_core.specs.declared.load.Load.{Load}
-use Rattle.sleep_core.specs.Waking.{waking_steps_left}
-use Rattle.sleep_core.specs.declared.waker.Waker.{Waker}
+use Rattle.hib_core.specs.Waking.{waking_steps_left}
+use Rattle.hib_core.specs.declared.waking.waker.Waker.{Waker}
 use Rattle.world_core.specs.declared.world.Core.{Core}
 use Rattle.world_core.specs.declared.world.Core.TheVariants.{BootBegun, BootSynced, Hibernating}
 use Rattle.world_core.specs.declared.world.Core.TheVariants.{Waking, Loading}

@@ -1,6 +1,6 @@
 ghost use Rattle.std.specs.Prelude.{◌≡◌, ◌≢◌, ◌<◌, length};
 ghost use Rattle.machine.specs.Running.{slot_table_of};
-ghost use Rattle.sleep_core.specs.Row.{IsLeft};
+ghost use Rattle.hib_core.specs.WakingRow.{IsLeft};
 ghost use Rattle.swap_slots.specs.Table.{LiesIn, Matches};
 ghost use Rattle.world_core.specs.StandsFor.{core_waking};
 ghost use Rattle.sector_disk.specs.Called.{Called};
@@ -8,10 +8,10 @@ ghost use Rattle.sector_disk.specs.Called.{Called};
 use crate::World;
 use crate::world::Core;
 use frame_arena::Frames;
+use hib_core::waking::{Phase, Waker};
 use machine::{Machine, slot_table};
 use plain_machine::{Held, Reply};
 use sector_disk::Disk;
-use sleep_core::{Phase, Waker};
 use swap_slots::FreeRuns;
 
 // Waking after a suspend to both: the mark of the image is taken back before the machine runs (swsusp_unmark,

@@ -7,13 +7,13 @@ ghost use Rattle.protocol_laws.specs.Rows.{TellsNewFault};
 ghost use Rattle.sector_disk.specs.Called.{Called};
 
 use frame_arena::Frames;
+use hib_core::waking::Waker;
 use hib_core::{Hib, Job};
 use machine::{Dump, Hardware, Machine, slot_table};
 use page_core::NoMemory;
 use plain_machine::{Actor, BootFrom, Event, Reply};
 use resume_core::Load;
 use sector_disk::Disk;
-use sleep_core::Waker;
 use std::alloc::Global;
 use std::marker::Model;
 use swap_slots::FreeRuns;

@@ -7,7 +7,7 @@ use Rattle.hib_core.proofs.BeginTables.{slot_table_lies}
 use Rattle.protocol_laws.specs.Slots.{IsMemoryOf}
 use Rattle.world_core.specs.Kept.{kept_world, HasTables, IsDown, IsUp}
 use Rattle.world_core.specs.Row.{SimulatesWhereTold, Restores, WakesWith}
-use Rattle.sleep_core.specs.Waking.{waking_steps_left}
+use Rattle.hib_core.specs.Waking.{waking_steps_left}
 use Rattle.world_core.specs.StandsFor.{core_waking}
 use Rattle.world_core.specs.StepsLeft.{steps_left, steps_left_in}
 use Rattle.world_core.specs.declared.world.Core.{Core}

@@ -1,6 +1,6 @@
 use Rattle.std.proofs.Common.{refl}
-use Rattle.sleep_core.proofs.Rows.{begun_row}
-use Rattle.sleep_core.proofs.waker.Waker.begin.Goals as goal
+use Rattle.hib_core.proofs.WakingRows.{begun_row}
+use Rattle.hib_core.proofs.waking.waker.Waker.begin.Goals as goal
 
 pub returns-clause-row : goal.returns-clause-row
 returns-clause-row c = begun_row _ refl

@@ -1,13 +1,13 @@
 use Rattle.std.proofs.Common.{◌∙◌, ◌<◌, refl, sym, subst, inl, inr, arith}
 use Rattle.plain_machine.specs.declared.reply.Left.TheVariants.{Unsure}
 use Rattle.plain_machine.specs.declared.reply.Reply.TheVariants as reply
-use Rattle.sleep_core.specs.Waking.{IsReplyAt, waking_steps_left_at}
-use Rattle.sleep_core.specs.declared.waker.Stage.{Stage}
+use Rattle.hib_core.specs.Waking.{IsReplyAt, waking_steps_left_at}
+use Rattle.hib_core.specs.declared.waking.waker.Stage.{Stage}
 use Rattle.definitions.specs.Disk as disk
 use Rattle.plain_machine.specs.Shows.{seen_frames}
-use Rattle.sleep_core.specs.Row.{Sleeps, Runs}
-use Rattle.sleep_core.proofs.Rows.{as_left, woken, woken_row, sync_failed_row}
-use Rattle.sleep_core.proofs.waker.Waker.sync_back.Goals as goal
+use Rattle.hib_core.specs.WakingRow.{Sleeps, Runs}
+use Rattle.hib_core.proofs.WakingRows.{as_left, woken, woken_row, sync_failed_row}
+use Rattle.hib_core.proofs.waking.waker.Waker.sync_back.Goals as goal
 use Rattle.protocol_laws.proofs.Told.{content_of, changed}
 
 pub returns-in-Ok-clause-stepped : goal.returns-in-Ok-clause-stepped

@@ -8,11 +8,11 @@ use Rattle.plain_machine.specs.declared.reply.Reply.TheVariants as reply
 use Rattle.machine.specs.Flights.{flights_in}
 use Rattle.machine.specs.Running.{reason_of}
 use Rattle.machine.specs.declared.machine.Machine.{Machine}
-use Rattle.sleep_core.specs.declared.phase.Phase.{Phase}
-use Rattle.sleep_core.specs.declared.phase.Phase.TheVariants as phase
-use Rattle.sleep_core.specs.declared.waker.Stage.{Stage}
-use Rattle.sleep_core.specs.declared.waker.Stage.TheVariants as stage
-use Rattle.sleep_core.specs.declared.waker.Waker.{Waker}
+use Rattle.hib_core.specs.declared.waking.phase.Phase.{Phase}
+use Rattle.hib_core.specs.declared.waking.phase.Phase.TheVariants as phase
+use Rattle.hib_core.specs.declared.waking.waker.Stage.{Stage}
+use Rattle.hib_core.specs.declared.waking.waker.Stage.TheVariants as stage
+use Rattle.hib_core.specs.declared.waking.waker.Waker.{Waker}
 
 -- the number of steps made before each stage
 abbrev pub steps_before : Stage → ℕ

@@ -27,13 +27,13 @@ use Rattle.protocol_laws.proofs.Waking.{wake_begins, wake_reads, wake_read_fails
 use Rattle.machine.specs.Flights.{flights_in}
 use Rattle.machine.specs.Running.{reason_of}
 use Rattle.machine.specs.declared.machine.Machine.{Machine}
-use Rattle.sleep_core.specs.Row.{WakingStandsFor, Sleeps, Runs, IsBegun}
-use Rattle.sleep_core.specs.Waking.{steps_before, shown_by, asleep_by, running_by, header_at}
-use Rattle.sleep_core.specs.declared.waker.Stage.{Stage}
-use Rattle.sleep_core.specs.declared.waker.Stage.TheVariants as stage
-use Rattle.sleep_core.specs.declared.waker.Waker.{Waker}
-use Rattle.sleep_core.proofs.Cases.{at_waking, at_sleep}
-use Rattle.sleep_core.proofs.Plain.{may_wake, may_read, read_may_fail, may_write, write_may_fail, may_end, end_may_fail}
+use Rattle.hib_core.specs.WakingRow.{WakingStandsFor, Sleeps, Runs, IsBegun}
+use Rattle.hib_core.specs.Waking.{steps_before, shown_by, asleep_by, running_by, header_at}
+use Rattle.hib_core.specs.declared.waking.waker.Stage.{Stage}
+use Rattle.hib_core.specs.declared.waking.waker.Stage.TheVariants as stage
+use Rattle.hib_core.specs.declared.waking.waker.Waker.{Waker}
+use Rattle.hib_core.proofs.WakingCases.{at_waking, at_sleep}
+use Rattle.hib_core.proofs.WakingPlain.{may_wake, may_read, read_may_fail, may_write, write_may_fail, may_end, end_may_fail}
 use Rattle.protocol_laws.proofs.Named.{names_same}
 use Rattle.protocol_laws.proofs.Same.{same_area}
 

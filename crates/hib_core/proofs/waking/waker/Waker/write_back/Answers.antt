@@ -1,16 +1,16 @@
 use Rattle.std.proofs.Common.{◌≡◌, ℕ, List, ap, ◌∙◌, ◌<◌, refl, sym, subst, inl, inr, arith}
 use Rattle.plain_machine.specs.declared.reply.Left.TheVariants.{Unsure}
 use Rattle.plain_machine.specs.declared.reply.Reply.TheVariants as reply
-use Rattle.sleep_core.specs.Waking.{IsReplyAt, waking_steps_left_at}
-use Rattle.sleep_core.specs.declared.waker.Stage.{Stage}
+use Rattle.hib_core.specs.Waking.{IsReplyAt, waking_steps_left_at}
+use Rattle.hib_core.specs.declared.waking.waker.Stage.{Stage}
 use Rattle.definitions.specs.Disk as disk
 use Rattle.definitions.specs.Slots.{block_of}
 use Rattle.definitions.specs.SwapHeader.{unmarked_block}
 use Rattle.protocol_laws.specs.Settling.{IsOnDisk}
-use Rattle.sleep_core.specs.Row.{WakingStandsFor, Sleeps}
-use Rattle.sleep_core.specs.declared.waker.Stage.TheVariants as stage
-use Rattle.sleep_core.proofs.Rows.{as_left, write_row, write_failed_row}
-use Rattle.sleep_core.proofs.waker.Waker.write_back.Goals as goal
+use Rattle.hib_core.specs.WakingRow.{WakingStandsFor, Sleeps}
+use Rattle.hib_core.specs.declared.waking.waker.Stage.TheVariants as stage
+use Rattle.hib_core.proofs.WakingRows.{as_left, write_row, write_failed_row}
+use Rattle.hib_core.proofs.waking.waker.Waker.write_back.Goals as goal
 use Rattle.protocol_laws.proofs.Told.{content_of, changed, write_at}
 
 pub returns-in-Ok-clause-stepped : goal.returns-in-Ok-clause-stepped

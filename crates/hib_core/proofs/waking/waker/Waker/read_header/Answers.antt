@@ -1,13 +1,13 @@
 use Rattle.std.proofs.Common.{◌≡◌, ◌<◌, List, ℕ, sym, ap, ◌∙◌, subst, refl, inl, inr, arith}
 use Rattle.plain_machine.specs.declared.reply.Left.TheVariants.{Same}
 use Rattle.plain_machine.specs.declared.reply.Reply.TheVariants as reply
-use Rattle.sleep_core.specs.Waking.{IsReplyAt, waking_steps_left_at}
-use Rattle.sleep_core.specs.declared.waker.Stage.{Stage}
+use Rattle.hib_core.specs.Waking.{IsReplyAt, waking_steps_left_at}
+use Rattle.hib_core.specs.declared.waking.waker.Stage.{Stage}
 use Rattle.definitions.specs.Slots.{block_of}
-use Rattle.sleep_core.specs.Row.{WakingStandsFor, Sleeps}
-use Rattle.sleep_core.specs.declared.waker.Stage.TheVariants as stage
-use Rattle.sleep_core.proofs.Rows.{as_left, read_row, read_failed_row}
-use Rattle.sleep_core.proofs.waker.Waker.read_header.Goals as goal
+use Rattle.hib_core.specs.WakingRow.{WakingStandsFor, Sleeps}
+use Rattle.hib_core.specs.declared.waking.waker.Stage.TheVariants as stage
+use Rattle.hib_core.proofs.WakingRows.{as_left, read_row, read_failed_row}
+use Rattle.hib_core.proofs.waking.waker.Waker.read_header.Goals as goal
 use Rattle.protocol_laws.proofs.Told.{content_of, header_read}
 
 pub returns-in-Ok-clause-stepped : goal.returns-in-Ok-clause-stepped

@@ -14,8 +14,8 @@ use Rattle.plain_machine.specs.declared.reply.Reply.TheVariants as reply
 use Rattle.protocol_laws.specs.Rows as rows
 use Rattle.protocol_laws.specs.Slots.{IsMemoryOf}
 use Rattle.machine.specs.declared.machine.Machine.{Machine}
-use Rattle.sleep_core.specs.Waking.{shown_by, asleep_by, running_by, phase_of, phase_told, IsReplyAt, waking_steps_left}
-use Rattle.sleep_core.specs.declared.waker.Waker.{Waker}
+use Rattle.hib_core.specs.Waking.{shown_by, asleep_by, running_by, phase_of, phase_told, IsReplyAt, waking_steps_left}
+use Rattle.hib_core.specs.declared.waking.waker.Waker.{Waker}
 
 -- A machine that wakes, sleeps or runs stands, with its disk, for a state.
 abbrev pub WakingStandsFor : Machine → Memory → Waker → disk.Content → State → Type 0

@@ -3,12 +3,12 @@ ghost use Rattle.std.specs.Cmp.Lexicographic.{pointwise};
 ghost use Rattle.definitions.specs.SwapHeader.{sig_of, image_signature, unmarked_block};
 ghost use Rattle.plain_machine.specs.Machine.{IsHardware, block_of_slot};
 ghost use Rattle.protocol_laws.specs.Rows.{TellsNewFault};
-ghost use Rattle.sleep_core.specs.Waking.{phase_of};
-ghost use Rattle.sleep_core.specs.Row.{HasStepped, IsBegun};
-ghost use Rattle.sleep_core.specs.declared.phase.Phase.TheVariants as phase;
+ghost use Rattle.hib_core.specs.Waking.{phase_of};
+ghost use Rattle.hib_core.specs.WakingRow.{HasStepped, IsBegun};
+ghost use Rattle.hib_core.specs.declared.waking.phase.Phase.TheVariants as phase;
 ghost use Rattle.sector_disk.specs.Called.{Called, OneCall};
 
-use crate::phase::Phase;
+use crate::waking::phase::Phase;
 use image_format::unmark;
 use machine::Machine;
 use page_core::{Failed, Page};
@@ -40,7 +40,7 @@ pub struct Waker {
 }
 
 impl Waker {
-    ghost use Rattle.sleep_core.specs.declared.waker.Stage.TheVariants as stage;
+    ghost use Rattle.hib_core.specs.declared.waking.waker.Stage.TheVariants as stage;
 
     /// Begins to wake a machine that sleeps.
     pub fn begin() -> Waker

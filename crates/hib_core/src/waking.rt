@@ -1,6 +1,5 @@
 //! Waking after a suspend to both: takes the mark of the written image back, and the machine runs with the memory that
 //! it kept (hibernation mode "suspend", kernel/power/hibernate.c; swsusp_unmark, kernel/power/swap.c).
-#![tactic(auto)]
 
 mod phase;
 mod waker;

@@ -1,3 +1,0 @@
-mod Cases
-mod Plain
-pub mod Rows
