@@ -1,2 +1,4 @@
 pub mod Handed
 pub mod Taken
+pub mod Items
+pub mod Joined

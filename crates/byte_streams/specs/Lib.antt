@@ -3,3 +3,4 @@ pub mod Flushed
 pub mod Memory
 pub mod Flushes
 pub mod Places
+pub mod Texts

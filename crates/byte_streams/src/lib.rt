@@ -1,8 +1,9 @@
-//! Where the program's bytes come from and go to: sources, sinks, the lines that are printed, and the standard streams
-//! themselves.
+//! Where the program's bytes come from and go to: sources, sinks, the lines that are printed, those of facts too, and the
+//! standard streams themselves.
 #![tactic(auto)]
 
 mod calls;
+mod facts;
 mod filling;
 mod line;
 mod memory;
@@ -12,6 +13,7 @@ mod source;
 mod standard;
 mod streams;
 
+pub use facts::{Facts, Name, is_printable, put_hex_word, put_name, put_numbers, put_text};
 pub use filling::fill;
 pub use line::Line;
 pub use memory::{MemSink, MemSource};

@@ -7,7 +7,7 @@ use Rattle.std.specs.List.{flat_map, range_with_len}
 use Rattle.definitions.proofs.ZoneLists.{filter-range_more}
 use Rattle.dump_tools.specs.Facts.{if_some, owned_by, tasks}
 use Rattle.dump_tools.specs.declared.facts.fact.Fact.{Fact}
-use Rattle.fact_lines.proofs.Joined.{two_parts}
+use Rattle.byte_streams.proofs.Joined.{two_parts}
 
 range-more : (a n : ℕ) → range_with_len a (n + 1) ≡ range_with_len a n ++ (a + n) ∷ []
 range-more a zero = let same : a ≡ a + 0 = omega arith in ap (λ (x : ℕ). x ∷ []) same

@@ -12,8 +12,8 @@ use Rattle.dump_tools.specs.Counts.{frames_of, slots_of}
 use Rattle.dump_tools.specs.declared.facts.counting.Kind.TheVariants.{OwnedBy}
 use Rattle.dump_tools.specs.declared.facts.fact.Fact.{Fact}
 use Rattle.dump_tools.specs.declared.facts.fact.Fact.TheVariants as fact
-use Rattle.fact_lines.specs.declared.name.Name.{Name}
-use Rattle.fact_lines.specs.declared.name.Name.TheVariants as name
+use Rattle.byte_streams.specs.declared.facts.name.Name.{Name}
+use Rattle.byte_streams.specs.declared.facts.name.Name.TheVariants as name
 
 abbrev pub zone_fact : ℕ × ℕ → Fact
 zone_fact zone = fact.Zone zone.0 zone.1

@@ -6,7 +6,7 @@ use Rattle.plain_machine.specs.Machine.{Hardware, Memory}
 use Rattle.dump_tools.specs.Facts.{facts_of}
 use Rattle.dump_tools.specs.declared.facts.fact.Fact.{Fact}
 use Rattle.dump_tools.specs.declared.facts.fact.Fact.TheVariants as fact
-use Rattle.fact_lines.specs.Texts.{name_text, numbers_text}
+use Rattle.byte_streams.specs.Texts.{name_text, numbers_text}
 
 abbrev pub image_key : Format → List ℕ
 image_key Plain = codes "image_plain"

@@ -17,7 +17,7 @@ use memory::{add_frames, add_images, add_slots};
 
 /// The facts of a dump: at most 16 zones, 64 regions, 64 extents, 64 tasks with page frames and 64 with slots, and 20
 /// more.
-pub type Facts = fact_lines::Facts<Fact, 292>;
+pub type Facts = byte_streams::Facts<Fact, 292>;
 
 /// Returns the facts of a dump.
 #[tactic(auto, unfolding(crate::specs::Facts::facts_of))]

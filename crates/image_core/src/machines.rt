@@ -3,8 +3,8 @@ ghost use Rattle.definitions.specs.InfoPage.{text_of_name};
 ghost use Rattle.image_check.specs.Info.{is_version_text};
 ghost use Rattle.image_core.specs.Identity.{arch_machine, machine_of};
 
+use byte_streams::is_printable;
 use elf_core::machine_of_name;
-use fact_lines::is_printable;
 use page_core::Page;
 
 /// The offsets of the version code and of the machine's name (`struct swsusp_info`, kernel/power/power.h).

@@ -8,7 +8,7 @@ use Rattle.std.specs.List.{flat_map}
 use Rattle.definitions.specs.Bytes.{number_at, word}
 use Rattle.definitions.specs.Disk.{Content}
 use Rattle.definitions.specs.FreeRuns.{runs_of}
-use Rattle.fact_lines.proofs.Joined.{map-take_more}
+use Rattle.byte_streams.proofs.Joined.{map-take_more}
 use Rattle.page_core.specs.declared.format.Format.{Format}
 use Rattle.image_walk.specs.Names.{Name, AreReadFrom, IsReading}
 use Rattle.image_walk.specs.declared.limits.Limits.{Limits}

@@ -3,8 +3,8 @@ use Rattle.std.specs.Prelude.{ℕ, ◌/◌, ◌%◌, ◌==◌, List, [], ◌∷�
 use Rattle.definitions.specs.Bytes.{bytes_at, word}
 use Rattle.definitions.specs.InfoPage.{info_of, text_of_name}
 use Rattle.definitions.specs.declared.info.Ident.{Ident}
-use Rattle.fact_lines.specs.declared.name.Name.{Name}
-use Rattle.fact_lines.specs.declared.name.Name.TheVariants as name
+use Rattle.byte_streams.specs.declared.facts.name.Name.{Name}
+use Rattle.byte_streams.specs.declared.facts.name.Name.TheVariants as name
 use Rattle.image_check.specs.Info.{is_version_text, magic}
 use Rattle.image_show.specs.declared.facts.fact.Fact.{Fact}
 use Rattle.image_show.specs.declared.facts.fact.Fact.TheVariants as fact

@@ -2,7 +2,7 @@
 use Rattle.std.specs.Prelude.{ℕ, Bool, true, false, List, [], ◌∷◌, ◌++◌, None, codes, decimal, flat_map}
 use Rattle.definitions.specs.Bytes.{bytes_at}
 use Rattle.definitions.specs.InfoPage.{text_of_name}
-use Rattle.fact_lines.specs.Texts.{name_text, numbers_text, value_text, word_text}
+use Rattle.byte_streams.specs.Texts.{name_text, numbers_text, value_text, word_text}
 use Rattle.plain_machine.specs.UsableArea.{no_swap_at}
 use Rattle.plain_machine.specs.Replies.{hex_text, why_text}
 use Rattle.image_show.specs.declared.facts.fact.Fact.{Fact}

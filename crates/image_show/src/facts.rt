@@ -15,4 +15,4 @@ pub use reading::Reading;
 pub use runs::Runs;
 
 /// The facts of a block: at most 630 bad pages, and 16 more of a header block.
-pub type Facts = fact_lines::Facts<Fact, 646>;
+pub type Facts = byte_streams::Facts<Fact, 646>;

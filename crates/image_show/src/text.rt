@@ -1,14 +1,13 @@
 ghost use Rattle.std.specs.Prelude.{◌≡◌, ◌+◌, ◌≤◌, ◌++◌, length, codes, decimal};
 ghost use Rattle.definitions.specs.InfoPage.{text_of_name};
-ghost use Rattle.fact_lines.specs.Texts.{value_text};
+ghost use Rattle.byte_streams.specs.Texts.{value_text};
 ghost use Rattle.plain_machine.specs.UsableArea.{no_swap_at};
 ghost use Rattle.plain_machine.specs.Replies.{hex_text, why_text};
 ghost use Rattle.image_show.specs.Texts.{fact_text, flag_key, header_key, image_text, kernel_text, line_text};
 ghost use Rattle.image_show.specs.Texts.{uuid_text};
 
 use crate::{Fact, Flag, Header};
-use byte_streams::Line;
-use fact_lines::{put_hex_word, put_name, put_numbers, put_text};
+use byte_streams::{Line, put_hex_word, put_name, put_numbers, put_text};
 use image_format::AreaFault;
 
 /// Returns the text of a fact: its key, and its value after a space.

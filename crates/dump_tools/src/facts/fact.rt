@@ -1,4 +1,4 @@
-use fact_lines::Name;
+use byte_streams::Name;
 use page_core::Format;
 
 /// What one line says of a machine and its memory.

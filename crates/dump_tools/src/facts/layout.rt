@@ -3,7 +3,7 @@ ghost use Rattle.dump_tools.specs.Facts.{extent_fact, identity_facts, layout_fac
 
 use crate::facts::Facts;
 use crate::facts::fact::Fact;
-use fact_lines::Name;
+use byte_streams::Name;
 use frame_sets::Zones;
 use machine::Hardware;
 

@@ -2,8 +2,7 @@ ghost use Rattle.std.specs.Prelude.{◌≡◌, ◌≤◌, length};
 ghost use Rattle.dump_tools.specs.Texts.{fact_text, image_key, line_text, needed_key};
 
 use crate::facts::Fact;
-use byte_streams::Line;
-use fact_lines::{put_name, put_numbers};
+use byte_streams::{Line, put_name, put_numbers};
 use page_core::Format;
 
 /// Returns the line of a fact.

@@ -1,4 +1,4 @@
-use fact_lines::Name;
+use byte_streams::Name;
 use image_format::AreaFault;
 
 /// The beginning of an info page.

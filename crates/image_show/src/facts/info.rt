@@ -8,7 +8,7 @@ ghost use Rattle.image_show.specs.InfoFacts.{x86_facts};
 
 use crate::facts::Facts;
 use crate::facts::fact::{Fact, Header};
-use fact_lines::{Name, is_printable};
+use byte_streams::{Name, is_printable};
 use image_format::info::{Ident, decode};
 use page_core::Page;
 

@@ -1,7 +1,7 @@
 use Rattle.std.proofs.Common.{ℕ, List, ◌++◌, ◌∷◌, [], length, map, sym, ap, ◌∙◌, arith}
 use Rattle.definitions.proofs.ZoneWalk.{at_zone, all_zones}
 use Rattle.dump_tools.specs.Facts.{zone_fact}
-use Rattle.fact_lines.proofs.Joined.{mapped_more}
+use Rattle.byte_streams.proofs.Joined.{mapped_more}
 use Rattle.dump_tools.proofs.facts.layout.add_zones.Goals as goal
 
 pub add-requires : goal.add-requires

@@ -3,7 +3,7 @@ use Rattle.dump_tools.specs.Facts.{owned_frames}
 use Rattle.dump_tools.specs.declared.facts.fact.Fact.{Fact}
 use Rattle.dump_tools.specs.declared.facts.fact.Fact.TheVariants as fact
 use Rattle.dump_tools.proofs.Images.{saveable_are}
-use Rattle.fact_lines.proofs.Joined.{two_parts}
+use Rattle.byte_streams.proofs.Joined.{two_parts}
 use Rattle.dump_tools.proofs.facts.memory.add_frames.Goals as goal
 
 pub returns-clause-added : goal.returns-clause-added

@@ -5,7 +5,7 @@ use Rattle.plain_machine.specs.Step.{no_slots}
 use Rattle.dump_tools.specs.Facts.{image_facts, images_facts}
 use Rattle.dump_tools.specs.declared.facts.fact.Fact.{Fact}
 use Rattle.dump_tools.proofs.Images.{n_is, plain_d_is, zeros_d_is, image_facts_are}
-use Rattle.fact_lines.proofs.Joined.{two_parts}
+use Rattle.byte_streams.proofs.Joined.{two_parts}
 use Rattle.dump_tools.proofs.facts.memory.add_images.Goals as goal
 
 pub returns : goal.returns

@@ -1,7 +1,7 @@
 use Rattle.std.proofs.Common.{ℕ, List, ◌∙◌, subst, arith}
 use Rattle.definitions.specs.Streams.{TakesAll, TakesFront}
 use Rattle.dump_tools.specs.Texts.{line_text}
-use Rattle.fact_lines.proofs.Items.{all_of_more, front_of_more}
+use Rattle.byte_streams.proofs.Items.{all_of_more, front_of_more}
 use Rattle.dump_tools.proofs.shown.printing.print.Goals as goal
 
 pub returns-in_err-put_all-clause-front : goal.returns-in_err-put_all-clause-front

@@ -1,7 +1,7 @@
 use Rattle.std.proofs.Common.{◌≡◌, ℕ, List, [], ◌∷◌, ◌++◌, length, map, min, take, sym, ap, ◌∙◌, rules}
 use Rattle.std.proofs.lemmas.List.{take_min}
 use Rattle.definitions.specs.Bytes.{bytes_at}
-use Rattle.fact_lines.proofs.Joined.{four_parts}
+use Rattle.byte_streams.proofs.Joined.{four_parts}
 use Rattle.image_show.specs.HeaderFacts.{label_facts}
 use Rattle.image_show.specs.declared.facts.fact.Fact.TheVariants as fact
 use Rattle.image_show.proofs.facts.header.add_swap.Goals as goal

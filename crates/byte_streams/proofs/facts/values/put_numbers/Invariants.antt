@@ -1,7 +1,7 @@
 use Rattle.std.proofs.Common.{◌≡◌, ◌+◌, ◌*◌, ◌≤◌, ◌++◌, length, take}
 use Rattle.std.specs.List.{flat_map}
-use Rattle.fact_lines.specs.Texts.{number_text}
-use Rattle.fact_lines.proofs.values.put_numbers.Given as goal
+use Rattle.byte_streams.specs.Texts.{number_text}
+use Rattle.byte_streams.proofs.facts.values.put_numbers.Given as goal
 
 abbrev pub invariant-loop-n : goal.invariant-loop-n
 invariant-loop-n l = record {

@@ -4,8 +4,8 @@ use Rattle.std.specs.Int.{w64, to_be_bytes}
 use Rattle.std.specs.List.{flat_map, list_all}
 use Rattle.definitions.specs.InfoPage.{text_of_name}
 use Rattle.plain_machine.specs.Replies.{hex_text}
-use Rattle.fact_lines.specs.declared.name.Name.{Name}
-use Rattle.fact_lines.specs.declared.name.Name.TheVariants as name
+use Rattle.byte_streams.specs.declared.facts.name.Name.{Name}
+use Rattle.byte_streams.specs.declared.facts.name.Name.TheVariants as name
 
 -- a number after a space, and a key with such numbers
 abbrev pub number_text : ℕ → List ℕ

@@ -5,8 +5,8 @@ use Rattle.std.proofs.lemmas.Grind.{flat_map-append}
 use Rattle.std.proofs.lemmas.List.{take-append-drop, take_more}
 use Rattle.std.specs.List.{flat_map}
 use Rattle.definitions.specs.Streams.{TakesAll, TakesFront}
-use Rattle.fact_lines.specs.Texts.{number_text}
-use Rattle.fact_lines.proofs.Joined.{three_parts}
+use Rattle.byte_streams.specs.Texts.{number_text}
+use Rattle.byte_streams.proofs.Joined.{three_parts}
 use Rattle.byte_streams.proofs.Taken.{TakesAll-both, TakesFront-first, TakesFront-second}
 
 flat_map-take_more : {X Y : Type 0} (f : X → List Y) (xs : List X) (i : ℕ) (d : X) → i < length xs → flat_map f (take (i + 1) xs) ≡ flat_map f (take i xs) ++ f (get_or xs i d)

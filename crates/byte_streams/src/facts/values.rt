@@ -1,10 +1,10 @@
 ghost use Rattle.std.specs.Prelude.{◌≡◌, ◌≤◌, ◌++◌, length};
 ghost use Rattle.std.specs.List.{list_all};
 ghost use Rattle.definitions.specs.InfoPage.{text_of_name};
-ghost use Rattle.fact_lines.specs.Texts.{is_printable, name_text, numbers_text, value_text, word_text};
+ghost use Rattle.byte_streams.specs.Texts.{is_printable, name_text, numbers_text, value_text, word_text};
 
-use crate::name::Name;
-use byte_streams::Line;
+use crate::Line;
+use crate::facts::name::Name;
 
 /// Writes a key into an empty buffer, and numbers after it.
 pub fn put_numbers(line: &mut Line, key: &[u8], numbers: &[u64])

@@ -1,5 +1,4 @@
 //! Facts, and their lines: a key, and the numbers of its value or its text.
-#![tactic(auto)]
 
 mod facts;
 mod name;

@@ -11,7 +11,7 @@ pub enum Name {
 
 impl Name {
     ghost use Rattle.std.specs.Prelude.{◌≡◌, ◌≤◌, length};
-    ghost use Rattle.fact_lines.specs.Texts.{name_key};
+    ghost use Rattle.byte_streams.specs.Texts.{name_key};
 
     /// Returns the key at the beginning of the name's line.
     pub fn key(self) -> &'static [u8]
