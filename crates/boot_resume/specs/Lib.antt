@@ -11,3 +11,4 @@ pub mod HandedOut
 pub mod Standing
 pub mod Accepted
 pub mod Asked
+pub mod Steps

@@ -1,10 +1,10 @@
 -- The numbers of a step when an image is given up, and how the functions change them: as `Discard` does.
 use Rattle.std.specs.Prelude.{◌≡◌, ℕ, ◌==◌, List, length, Option, Some, None, if◌then◌else◌}
-use Rattle.boot_discard.specs.Steps.{Answered, failed_after}
-use Rattle.boot_discard.specs.declared.step.Left.{Left}
-use Rattle.boot_discard.specs.declared.step.Left.TheVariants as left
-use Rattle.boot_discard.specs.declared.step.Step.{Step}
-use Rattle.boot_discard.specs.declared.step.Step.TheVariants as step
+use Rattle.boot_resume.specs.Steps.{Answered, failed_after}
+use Rattle.boot_resume.specs.declared.discard.step.Left.{Left}
+use Rattle.boot_resume.specs.declared.discard.step.Left.TheVariants as left
+use Rattle.boot_resume.specs.declared.discard.step.Step.{Step}
+use Rattle.boot_resume.specs.declared.discard.step.Step.TheVariants as step
 use Rattle.swsusp_c.specs.Calls.{numbers}
 use Rattle.swsusp_c.specs.declared.calls.SwsuspCall.{SwsuspCall}
 

@@ -1,12 +1,12 @@
 //! The functions that C calls to give an image up.
 ghost use Rattle.std.specs.Prelude.{◌≡◌, ◌≢◌, length};
-ghost use Rattle.boot_discard.specs.declared.step.Step.TheVariants as step;
+ghost use Rattle.boot_resume.specs.declared.discard.step.Step.TheVariants as step;
 ghost use Rattle.swsusp_c.specs.Codes.{discard_code, step_state_code};
 ghost use Rattle.swsusp_c.specs.Steps.{AnswersStep, FailsStep, failed_by, left_code, refused_by, step_code, step_of};
 
 use crate::calls::{SwsuspCall, of_kind, refused};
 use crate::codes::{BAD_PAGE, BAD_STATE, DONE, FAILED, OK, READ, REFUSED, SYNC, WRITE};
-use boot_discard::{Discard, Left, Step};
+use boot_resume::discard::{Discard, Left, Step};
 use page_core::Page;
 
 /// The giving up of an image (`struct swsusp_discard`): the next call.

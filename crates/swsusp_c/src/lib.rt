@@ -1,5 +1,5 @@
 //! Resuming an image, giving it up, checking it and reading its header, for programs in C, over `boot_resume`,
-//! `boot_discard`, `boot_check` and `image_format`: with numbers, byte pointers and what the caller lends.
+//! `boot_check` and `image_format`: with numbers, byte pointers and what the caller lends.
 //! include/swsusp.h declares what is exported. Each argument is tested here.
 #![tactic(auto)]
 

@@ -1,4 +1,4 @@
-use crate::step::{Left, Step};
+use crate::discard::step::{Left, Step};
 use image_format::{is_marked, take_back};
 use page_core::Page;
 
@@ -12,8 +12,8 @@ pub struct Discard {
 impl Discard {
     ghost use Rattle.std.specs.Prelude.{◌≡◌, List, ℕ};
     ghost use Rattle.definitions.specs.SwapHeader.{taken_back};
-    ghost use Rattle.boot_discard.specs.Steps.{Answered, IsEnd, failed_after};
-    ghost use Rattle.boot_discard.specs.declared.step.Step.{Step};
+    ghost use Rattle.boot_resume.specs.Steps.{Answered, IsEnd, failed_after};
+    ghost use Rattle.boot_resume.specs.declared.discard.step.Step.{Step};
 
     /// Returns a discard before the header block is read.
     pub fn new(header: u64) -> Discard
@@ -59,7 +59,7 @@ impl Discard {
     }
 }
 
-ghost use Rattle.boot_discard.specs.Steps.{IsBehindRead};
+ghost use Rattle.boot_resume.specs.Steps.{IsBehindRead};
 
 /// Returns the step after the read of the header block, and replaces the block by the block taken back if that is to be
 /// written.

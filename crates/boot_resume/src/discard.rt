@@ -1,6 +1,5 @@
 //! How an image is given up, as a value that asks: it names the next call of the disk and is told how that went, so a
 //! boot loader can embed it (kernel/power/swap.c, swsusp_unmark).
-#![tactic(auto)]
 
 mod discard;
 mod step;
