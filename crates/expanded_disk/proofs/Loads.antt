@@ -5,8 +5,8 @@ use Rattle.std.specs.Prelude.{slice_index}
 use Rattle.std.specs.Option.{ForSome}
 use Rattle.definitions.specs.Bytes.{word}
 use Rattle.definitions.specs.Disk.{Content, as_it_reads}
-use Rattle.lzo.specs.Expansion.{Outcome, expansion, told}
-use Rattle.lzo.specs.declared.fault.LzoFault.{LzoFault}
+use Rattle.compression.specs.Expansion.{Outcome, expansion, told}
+use Rattle.compression.specs.declared.lzo.fault.LzoFault.{LzoFault}
 use Rattle.expanded_disk.specs.Index.{IsIndexOf, first_of}
 use Rattle.expanded_disk.specs.Names.{chain_of}
 use Rattle.expanded_disk.specs.Units.{bytes_from, bytes_of, is_length, length_at, outcome_of, pages_with, size_of, start_of, units_of}

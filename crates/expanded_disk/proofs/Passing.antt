@@ -6,8 +6,8 @@ use Rattle.std.proofs.Math.ListN.{get_or-append}
 use Rattle.std.proofs.lemmas.Bool.{cases_lt}
 use Rattle.std.proofs.lemmas.List.Folds.{concat-append}
 use Rattle.std.proofs.lemmas.List.FromFn.{map-range_with_len_more}
-use Rattle.crc32.specs.Crc.{crc32}
-use Rattle.crc32.proofs.Composing.{composes}
+use Rattle.compression.specs.Crc.{crc32}
+use Rattle.compression.proofs.Composing.{composes}
 use Rattle.definitions.specs.Disk.{Content, as_it_reads}
 use Rattle.image_walk.specs.declared.limits.Limits.{Limits}
 use Rattle.image_check.specs.declared.finding.Finding.{Finding}

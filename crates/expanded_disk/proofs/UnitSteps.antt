@@ -7,8 +7,8 @@ use Rattle.std.proofs.lemmas.List.Folds.{concat-append}
 use Rattle.std.proofs.lemmas.List.FromFn.{map-range_with_len_more}
 use Rattle.definitions.specs.Bytes.{word}
 use Rattle.definitions.specs.Disk.{Content, as_it_reads}
-use Rattle.lzo.specs.Expansion.{expansion}
-use Rattle.lzo.specs.declared.fault.LzoFault.{LzoFault}
+use Rattle.compression.specs.Expansion.{expansion}
+use Rattle.compression.specs.declared.lzo.fault.LzoFault.{LzoFault}
 use Rattle.image_walk.specs.declared.limits.Limits.{Limits}
 use Rattle.image_walk.specs.Names.{Name}
 use Rattle.image_check.specs.declared.finding.Finding.{Finding}

@@ -2,7 +2,7 @@
 use Rattle.std.proofs.Common.{◌≡◌, ℕ, ◌+◌, ◌-◌, ◌*◌, Bool, true, false, cond, List, ◌++◌, length, take, drop, Option, None, Some, IfSome, refl, sym, ap, ap₂, subst, ◌∙◌, inl, inr, arith}
 use Rattle.definitions.specs.Bytes.{word}
 use Rattle.definitions.specs.Disk.{Content, DiskImage, as_it_reads}
-use Rattle.lzo.specs.Expansion.{Outcome, expansion}
+use Rattle.compression.specs.Expansion.{Outcome, expansion}
 use Rattle.image_walk.specs.declared.limits.Limits.{Limits}
 use Rattle.image_walk.specs.Names.{Name}
 use Rattle.image_check.specs.declared.finding.Finding.{Finding}

@@ -3,7 +3,7 @@ use Rattle.std.specs.Prelude.{◌≡◌, ℕ, ◌<◌, List, length, take, Optio
 use Rattle.std.specs.Option.{ForSome}
 use Rattle.definitions.specs.Disk.{Content, HasRisen, as_it_reads}
 use Rattle.overlay_disk.specs.DiskState.{RisesBelowLast}
-use Rattle.lzo.specs.Expansion.{Outcome}
+use Rattle.compression.specs.Expansion.{Outcome}
 use Rattle.expanded_disk.specs.Index.{IsIndexed}
 use Rattle.expanded_disk.specs.Names.{chain_of}
 use Rattle.expanded_disk.specs.Units.{bytes_of, size_of}

@@ -4,10 +4,10 @@
 use Rattle.std.specs.Prelude.{◌≡◌, ℕ, zero, suc, ◌+◌, ◌-◌, ◌*◌, ◌/◌, ◌==◌, ◌&&◌, Bool, true, nat_lt, nat_le, min}
 use Rattle.std.specs.Prelude.{if◌then◌else◌, List, take, drop, length, map, Option, None, Some}
 use Rattle.std.specs.List.{concat, range_with_len}
-use Rattle.crc32.specs.Crc.{crc32}
+use Rattle.compression.specs.Crc.{crc32}
 use Rattle.definitions.specs.Bytes.{word}
-use Rattle.lzo.specs.Expansion.{Outcome, expansion}
-use Rattle.lzo.specs.declared.fault.LzoFault.{LzoFault}
+use Rattle.compression.specs.Expansion.{Outcome, expansion}
+use Rattle.compression.specs.declared.lzo.fault.LzoFault.{LzoFault}
 use Rattle.image_check.specs.declared.finding.Finding.{Finding}
 use Rattle.image_check.specs.declared.finding.Finding.TheVariants as finding
 use Rattle.image_check.specs.declared.finding.Place.{Place}

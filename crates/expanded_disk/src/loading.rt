@@ -4,7 +4,7 @@ ghost use Rattle.definitions.specs.Disk.{as_it_reads, block};
 ghost use Rattle.expanded_disk.specs.Index.{IsIndexOf};
 ghost use Rattle.expanded_disk.specs.Names.{chain_of};
 ghost use Rattle.expanded_disk.specs.Units.{bytes_from, bytes_of, size_of, start_of, units_of};
-ghost use Rattle.lzo.specs.Expansion.{expansion};
+ghost use Rattle.compression.specs.Expansion.{expansion};
 ghost use Rattle.expanded_disk.specs.Keeps.{FailsBelow, IsJust, IsKept};
 ghost use Rattle.expanded_disk.specs.Laid.{expanded_page};
 ghost use Rattle.std.specs.Option.{ForSome};

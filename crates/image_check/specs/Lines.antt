@@ -4,9 +4,9 @@ use Rattle.byteorder.specs.Endian.{big_bytes}
 use Rattle.plain_machine.specs.Replies.{hex_text}
 use Rattle.image_format.specs.declared.signature.area.AreaFault.{AreaFault}
 use Rattle.image_format.specs.declared.signature.area.AreaFault.TheVariants as area
-use Rattle.lzo.specs.declared.fault.Kind.{Kind}
-use Rattle.lzo.specs.declared.fault.Kind.TheVariants as kind
-use Rattle.lzo.specs.declared.fault.LzoFault.{LzoFault}
+use Rattle.compression.specs.declared.lzo.fault.Kind.{Kind}
+use Rattle.compression.specs.declared.lzo.fault.Kind.TheVariants as kind
+use Rattle.compression.specs.declared.lzo.fault.LzoFault.{LzoFault}
 use Rattle.image_walk.specs.declared.visit.BlockFault.{BlockFault}
 use Rattle.image_walk.specs.declared.visit.BlockFault.TheVariants as block
 use Rattle.image_check.specs.declared.finding.Finding.{Finding}

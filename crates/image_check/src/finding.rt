@@ -1,6 +1,6 @@
+use compression::lzo::LzoFault;
 use image_format::AreaFault;
 use image_walk::BlockFault;
-use lzo::LzoFault;
 
 /// What an info page says of an image's size.
 #[derive(Clone, Copy)]

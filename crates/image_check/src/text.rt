@@ -8,9 +8,9 @@ ghost use Rattle.image_check.specs.Lines.{checksum_text, kind_text, size_text, s
 use crate::{Finding, Place};
 use byte_streams::Line;
 use byteorder::{BigEndian, ByteOrder};
+use compression::lzo::{Kind, LzoFault};
 use image_format::AreaFault;
 use image_walk::BlockFault;
-use lzo::{Kind, LzoFault};
 
 /// Returns the line of a finding.
 pub(crate) fn line_of(finding: &Finding) -> Line

@@ -8,8 +8,8 @@ use Rattle.definitions.specs.Disk.{HasRisen, last_count}
 use Rattle.definitions.specs.Streams.{TakesAll}
 use Rattle.image_format.specs.declared.signature.area.AreaFault.{AreaFault}
 use Rattle.image_format.specs.declared.signature.area.AreaFault.TheVariants as area
-use Rattle.lzo.specs.declared.fault.Kind.{Kind}
-use Rattle.lzo.specs.declared.fault.Kind.TheVariants as kind
+use Rattle.compression.specs.declared.lzo.fault.Kind.{Kind}
+use Rattle.compression.specs.declared.lzo.fault.Kind.TheVariants as kind
 use Rattle.image_walk.specs.declared.visit.BlockFault.{BlockFault}
 use Rattle.image_walk.specs.declared.visit.BlockFault.TheVariants as block
 use Rattle.image_check.specs.Lines.{line_of, lines_of}

@@ -3,9 +3,9 @@ ghost use Rattle.std.specs.Prelude.{◌≡◌};
 ghost use Rattle.swsusp_c.specs.Findings.{at_place, block_numbers, finding_code, four, kind_number, no_entry};
 
 use crate::inspect::fault_of;
+use compression::lzo::Kind;
 use image_check::{Finding, Place, Report};
 use image_walk::BlockFault;
-use lzo::Kind;
 
 /// The number of findings that are kept.
 pub(crate) const ROOM: usize = 1100;

@@ -1,4 +1,4 @@
-use crc32::crc32_le;
+use compression::crc32::crc32_le;
 
 // The values are zlib's `crc32(bytes, seed ^ 0xffffffff) ^ 0xffffffff`, which cancels its inversions. CRC-32 of RFC
 // 1952 (0xcbf43926) begins with all bits set, and ends with an inversion.

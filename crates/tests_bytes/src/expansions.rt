@@ -1,6 +1,6 @@
 ghost use Rattle.std.specs.Prelude.{◌≤◌, length};
 
-use lzo::{Kind, LzoFault, expand};
+use compression::lzo::{Kind, LzoFault, expand};
 use std::process::Abort;
 use std::test::Fail;
 

@@ -1,9 +1,9 @@
 ghost use Rattle.std.specs.Prelude.{◌≡◌, ◌+◌, ◌*◌, ◌<◌, ◌≤◌, ◌++◌, take, drop, length, IfOk};
-ghost use Rattle.lzo.specs.Expansion.{expansion, told};
-ghost use Rattle.crc32.specs.Crc.{crc32};
+ghost use Rattle.compression.specs.Expansion.{expansion, told};
+ghost use Rattle.compression.specs.Crc.{crc32};
 
-use crc32::crc32_le;
-use lzo::{LzoFault, expand};
+use compression::crc32::crc32_le;
+use compression::lzo::{LzoFault, expand};
 use page_core::{NoMemory, Page};
 use std::alloc::Global;
 

@@ -1,6 +1,6 @@
 ghost use Rattle.std.specs.Prelude.{◌≡◌, ◌+◌, ◌-◌, ◌*◌, ◌/◌, ◌<◌, ◌≤◌, ◌^◌, ◌&&◌, IsTrue, ◌↔◌, true, take, drop};
 ghost use Rattle.std.specs.Prelude.{length, None, IfNone, IfOk};
-ghost use Rattle.lzo.specs.Expansion.{expansion, told};
+ghost use Rattle.compression.specs.Expansion.{expansion, told};
 ghost use Rattle.expanded_disk.specs.Chains.{IsSameChain, StandsAt};
 ghost use Rattle.expanded_disk.specs.Faults.{FillSays, StandsBefore, UnitSays};
 ghost use Rattle.expanded_disk.specs.Units.{is_length, pages_with, size_of, stream_fault, units_of};

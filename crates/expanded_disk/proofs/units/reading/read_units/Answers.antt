@@ -1,6 +1,6 @@
 use Rattle.std.proofs.Common.{◌≡◌, ℕ, ◌<◌, List, [], ◌∷◌, ◌++◌, length, take, Option, IfSome, refl, sym, ap, subst, ◌∙◌, arith}
 use Rattle.std.proofs.lemmas.List.{length-append}
-use Rattle.crc32.specs.Crc.{crc32}
+use Rattle.compression.specs.Crc.{crc32}
 use Rattle.definitions.specs.Disk.{as_it_reads}
 use Rattle.image_check.specs.declared.finding.Finding.{Finding}
 use Rattle.expanded_disk.specs.Faults.{AreWhole, UnitSays}
