@@ -4,3 +4,6 @@ pub mod Bits
 pub mod FrameSet
 pub mod KeptBitmap
 pub mod Left
+pub mod Numbers
+pub mod Places
+pub mod Unpacked

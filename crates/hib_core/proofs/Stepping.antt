@@ -2,7 +2,7 @@
 use Rattle.std.proofs.Common.{◌≡◌, ◌<◌, All, Bor, ℕ, ◌+◌, List, [], length, Option, Some, None, sym, ap, ◌∙◌, subst, arith}
 use Rattle.std.specs.Option.{IfSome, IfNone, option_copied}
 use Rattle.frame_sets.specs.FrameSet.{FrameSet}
-use Rattle.pfn_pack.specs.Places.{members_in}
+use Rattle.frame_sets.specs.Places.{members_in}
 use Rattle.snapshot.specs.Taken.{set_over, Taken}
 use Rattle.definitions.specs.declared.info.Info.{Info}
 use Rattle.plain_machine.specs.Machine.{Hardware, Memory}

@@ -9,11 +9,11 @@ use Rattle.definitions.specs.Disk as disk
 use Rattle.definitions.specs.NumberPages.{end_value}
 use Rattle.definitions.proofs.ZoneLists.{filter-range_more}
 use Rattle.page_core.specs.declared.format.Format.{Format}
-use Rattle.pfn_pack.specs.Unpacked.{Unpacked}
-use Rattle.pfn_pack.specs.Numbers as pack
-use Rattle.pfn_pack.specs.declared.unpack.PfnFault.{PfnFault}
-use Rattle.pfn_pack.specs.declared.unpack.PfnFault.TheVariants as fault
-use Rattle.pfn_pack.proofs.Listing.{numbers_in-none, numbers_in-more, marked_in-none, marked_in-one, marked_in-same}
+use Rattle.frame_sets.specs.Unpacked.{Unpacked}
+use Rattle.frame_sets.specs.Numbers as pack
+use Rattle.frame_sets.specs.declared.packing.unpack.PfnFault.{PfnFault}
+use Rattle.frame_sets.specs.declared.packing.unpack.PfnFault.TheVariants as fault
+use Rattle.frame_sets.proofs.Listing.{numbers_in-none, numbers_in-more, marked_in-none, marked_in-one, marked_in-same}
 use Rattle.plain_machine.specs.Machine.{Hardware, is_valid}
 use Rattle.plain_machine.specs.Chain.{or_else, first_some}
 use Rattle.plain_machine.specs.Trace.{stream_page, info_in, format_in, number_in, number_word, is_marked_by, number_cause, end_cause}

@@ -2,9 +2,9 @@
 use Rattle.std.proofs.Common.{◌≡◌, ◌≢◌, ℕ, ◌+◌, List, ◌++◌, length, length-append, Some, None, Result, Err, IfErr, eqb, sym, ap, ◌∙◌, subst, arith}
 use Rattle.std.proofs.lemmas.Bool.{cond-true, cond-false, eq-eqb, ne_eqb}
 use Rattle.std.proofs.lemmas.List.FromFn.{length-map-range_with_len}
-use Rattle.pfn_pack.specs.Unpacked.{Unpacked}
-use Rattle.pfn_pack.specs.Numbers.{page_fault, wanted, numbers_in, marked_in, number_in}
-use Rattle.pfn_pack.specs.declared.unpack.PfnFault.{PfnFault}
+use Rattle.frame_sets.specs.Unpacked.{Unpacked}
+use Rattle.frame_sets.specs.Numbers.{page_fault, wanted, numbers_in, marked_in, number_in}
+use Rattle.frame_sets.specs.declared.packing.unpack.PfnFault.{PfnFault}
 use Rattle.plain_machine.specs.Chain.{or_else}
 use Rattle.image_read.specs.Causes.{cause_of_numbers}
 use Rattle.image_read.specs.Reading.{Reading}

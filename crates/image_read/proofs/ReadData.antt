@@ -9,7 +9,7 @@ use Rattle.std.specs.List.Sorted.{IsStrictlyIncreasing}
 use Rattle.definitions.specs.Disk as disk
 use Rattle.definitions.specs.Zones.{first_from}
 use Rattle.definitions.proofs.Ascending.{Contains-nil, Contains-cons_cases, first_from-some}
-use Rattle.pfn_pack.specs.Unpacked.{Unpacked}
+use Rattle.frame_sets.specs.Unpacked.{Unpacked}
 use Rattle.plain_machine.specs.Machine.{Hardware}
 use Rattle.plain_machine.specs.Trace.{page_at, info_in, format_in, meta_in, place, place_count, read_cause, numbers_cause, data_frames}
 use Rattle.plain_machine.specs.declared.event.IdentCheck.{IdentCheck}

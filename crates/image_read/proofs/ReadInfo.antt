@@ -9,7 +9,7 @@ use Rattle.definitions.specs.declared.info.Field.{Field}
 use Rattle.page_core.specs.declared.format.Format.{Format}
 use Rattle.page_core.specs.declared.format.Format.TheVariants.{Plain, SkipZeros}
 use Rattle.image_format.specs.Counts.{are_bad_counts}
-use Rattle.pfn_pack.specs.Unpacked.{Unpacked}
+use Rattle.frame_sets.specs.Unpacked.{Unpacked}
 use Rattle.plain_machine.specs.Machine.{Hardware, valid_count}
 use Rattle.plain_machine.specs.Chain.{or_else}
 use Rattle.plain_machine.specs.Trace as trace

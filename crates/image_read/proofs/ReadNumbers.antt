@@ -6,9 +6,9 @@ use Rattle.std.specs.List.Sorted.{IsStrictlyIncreasing}
 use Rattle.definitions.specs.Disk as disk
 use Rattle.definitions.specs.NumberPages.{meta_of}
 use Rattle.page_core.specs.declared.format.Format.{Format}
-use Rattle.pfn_pack.specs.Unpacked.{Unpacked}
-use Rattle.pfn_pack.specs.Numbers as pack
-use Rattle.pfn_pack.specs.declared.unpack.PfnFault.{PfnFault}
+use Rattle.frame_sets.specs.Unpacked.{Unpacked}
+use Rattle.frame_sets.specs.Numbers as pack
+use Rattle.frame_sets.specs.declared.packing.unpack.PfnFault.{PfnFault}
 use Rattle.plain_machine.specs.Machine.{Hardware}
 use Rattle.plain_machine.specs.Chain.{or_else, first_some}
 use Rattle.plain_machine.specs.Trace.{Place, page_at, info_in, format_in, meta_in, d_in, place, place_count, read_cause, stream_page, number_cause, end_cause, listed_cause, numbers_cause, data_frames}

@@ -5,10 +5,10 @@ use Rattle.definitions.specs.Zones.{numbers}
 use Rattle.definitions.specs.InfoPage.{info_of}
 use Rattle.definitions.specs.declared.info.Ident.{Ident}
 use Rattle.definitions.specs.declared.info.Info.{Info}
-use Rattle.pfn_pack.specs.Unpacked.{Unpacked, IsUpTo}
-use Rattle.pfn_pack.specs.Numbers.{page_fault, or_else, first_below, fault_in, end_fault, wanted, numbers_in, marked_in}
-use Rattle.pfn_pack.proofs.Listing.{up_to_numbers, up_to_marked}
-use Rattle.pfn_pack.specs.declared.unpack.PfnFault.{PfnFault}
+use Rattle.frame_sets.specs.Unpacked.{Unpacked, IsUpTo}
+use Rattle.frame_sets.specs.Numbers.{page_fault, or_else, first_below, fault_in, end_fault, wanted, numbers_in, marked_in}
+use Rattle.frame_sets.proofs.Listing.{up_to_numbers, up_to_marked}
+use Rattle.frame_sets.specs.declared.packing.unpack.PfnFault.{PfnFault}
 use Rattle.plain_machine.specs.Trace.{place_count}
 use Rattle.image_read.specs.Reading.{Reading, IsReady}
 use Rattle.image_read.specs.Faults.{info_fault, named_block}

@@ -10,10 +10,10 @@ use Rattle.definitions.specs.Disk as disk
 use Rattle.definitions.proofs.Ascending.{Contains-head, Contains-tail, Contains-cons_cases, Contains-nil, IsStrictlyIncreasing-append, IsStrictlyIncreasing-cons}
 use Rattle.definitions.proofs.ZoneNumbers.{range-bounds}
 use Rattle.definitions.proofs.FrameSets.{Contains-filter, Contains-from_filter}
-use Rattle.pfn_pack.specs.Unpacked.{Unpacked, IsUpTo}
-use Rattle.pfn_pack.specs.Numbers.{number_in, before_in, fault_in, numbers_in, first_below}
-use Rattle.pfn_pack.proofs.Firsts.{first_below-none}
-use Rattle.pfn_pack.proofs.Listing.{numbers_in-none, numbers_in-more, up_to_numbers, above_all}
+use Rattle.frame_sets.specs.Unpacked.{Unpacked, IsUpTo}
+use Rattle.frame_sets.specs.Numbers.{number_in, before_in, fault_in, numbers_in, first_below}
+use Rattle.frame_sets.proofs.Firsts.{first_below-none}
+use Rattle.frame_sets.proofs.Listing.{numbers_in-none, numbers_in-more, up_to_numbers, above_all}
 use Rattle.plain_machine.specs.Machine.{Hardware}
 use Rattle.plain_machine.specs.Trace as trace
 use Rattle.image_read.specs.Stream.{frames_in, marked_in}

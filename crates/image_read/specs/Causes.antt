@@ -1,7 +1,7 @@
 -- Causes as replies of a resume, and faults of the parts of an image as causes.
 use Rattle.image_format.specs.declared.info.BadCounts.{BadCounts}
-use Rattle.pfn_pack.specs.declared.unpack.PfnFault.{PfnFault}
-use Rattle.pfn_pack.specs.declared.unpack.PfnFault.TheVariants as numbers
+use Rattle.frame_sets.specs.declared.packing.unpack.PfnFault.{PfnFault}
+use Rattle.frame_sets.specs.declared.packing.unpack.PfnFault.TheVariants as numbers
 use Rattle.plain_machine.specs.declared.reply.Reply.{Reply}
 use Rattle.plain_machine.specs.declared.reply.Reply.TheVariants as reply
 use Rattle.image_read.specs.declared.cause.Cause.{Cause}

@@ -2,7 +2,7 @@
 use Rattle.std.specs.Prelude.{◌≡◌, ◌≤◌, ◌<◌, ◌-◌, ℕ, List, length, Option, None}
 use Rattle.page_core.specs.declared.format.Format.{Format}
 use Rattle.definitions.specs.declared.info.Info.{Info}
-use Rattle.pfn_pack.specs.Unpacked.{Unpacked, IsUpTo}
+use Rattle.frame_sets.specs.Unpacked.{Unpacked, IsUpTo}
 use Rattle.image_format.specs.MapPages.{NumberedPage}
 use Rattle.plain_machine.specs.Trace.{place_count}
 

@@ -7,7 +7,7 @@ use Rattle.definitions.specs.NumberPages.{meta_of}
 use Rattle.page_core.specs.declared.format.Format.{Format}
 use Rattle.definitions.specs.Disk as disk
 use Rattle.definitions.specs.SwapHeader.{last_page_of}
-use Rattle.pfn_pack.specs.Unpacked.{Unpacked}
+use Rattle.frame_sets.specs.Unpacked.{Unpacked}
 use Rattle.plain_machine.specs.Machine.{Hardware}
 use Rattle.plain_machine.specs.Chain.{blocks_of, header_of, is_at_fault, map_block, entry_block}
 use Rattle.plain_machine.specs.Trace.{data_frames, first_map, info_in, format_in, meta_in, number_in, number_word}

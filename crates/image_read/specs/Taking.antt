@@ -6,8 +6,8 @@ use Rattle.definitions.specs.Zones.{numbers, first_from}
 use Rattle.definitions.specs.InfoPage.{info_of}
 use Rattle.definitions.specs.declared.info.Ident.{Ident}
 use Rattle.definitions.specs.declared.info.Info.{Info}
-use Rattle.pfn_pack.specs.Numbers.{page_fault, wanted, numbers_in, marked_in, after_page}
-use Rattle.pfn_pack.specs.declared.unpack.PfnFault.{PfnFault}
+use Rattle.frame_sets.specs.Numbers.{page_fault, wanted, numbers_in, marked_in, after_page}
+use Rattle.frame_sets.specs.declared.packing.unpack.PfnFault.{PfnFault}
 use Rattle.plain_machine.specs.Chain.{or_else}
 use Rattle.plain_machine.specs.Trace.{place_count}
 use Rattle.image_read.specs.Causes.{cause_of_numbers}

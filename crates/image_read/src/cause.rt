@@ -1,5 +1,5 @@
+use frame_sets::packing::PfnFault;
 use image_format::info::{BadCounts, Field};
-use pfn_pack::PfnFault;
 use plain_machine::Reply;
 use thiserror::Error;
 

@@ -12,11 +12,11 @@ ghost use Rattle.sector_disk.specs.Called.{Called, AtMostOneCall};
 
 use crate::area::Area;
 use crate::cause::Cause;
+use frame_sets::packing::Unpack;
 use frame_sets::{Bitmap, Zones};
 use image_format::info::{Ident, Info, check, counts, decode};
 use image_format::{ChainFault, MapReader};
 use page_core::{Format, Page};
-use pfn_pack::Unpack;
 use sector_disk::Disk;
 use std::marker::Model;
 use swap_slots::FileMap;
@@ -90,7 +90,7 @@ impl Reader {
     ghost use Rattle.image_read.specs.Causes.{reply_of};
     ghost use Rattle.image_read.specs.Faults.{first_fault, info_fault, pages_fault, named_fault, named_block};
     ghost use Rattle.image_read.specs.Faults.{chain_fault, block_named};
-    ghost use Rattle.pfn_pack.specs.Numbers.{wanted, numbers_in, marked_in};
+    ghost use Rattle.frame_sets.specs.Numbers.{wanted, numbers_in, marked_in};
     ghost use Rattle.image_read.specs.Taking.{Takes, Advances, with_data, after_frame, with_info, with_numbers};
     ghost use Rattle.image_read.specs.Taking.{numbers_fault};
     ghost use Rattle.image_read.specs.Stream.{IsAreaOf, HasReadPlaces, place_block};

@@ -6,8 +6,8 @@ use Rattle.std.proofs.lemmas.List.Filters.{length-filter_more}
 use Rattle.std.proofs.lemmas.Slice.Zip.{get_or-zip, length-zip}
 use Rattle.std.specs.List.Sorted.{IsStrictlyIncreasing}
 use Rattle.definitions.specs.Zones.{first_from}
-use Rattle.pfn_pack.specs.Places.{count_below}
-use Rattle.pfn_pack.proofs.Below.{count_below-zero, count_below-next, next_is}
+use Rattle.frame_sets.specs.Places.{count_below}
+use Rattle.frame_sets.proofs.Below.{count_below-zero, count_below-next, next_is}
 use Rattle.image_write.specs.Copies.{has_data, with_data, IsPassed}
 
 pub none_passed : (origs copies zeros : List ℕ) → IsPassed origs copies zeros 0 0 0 0

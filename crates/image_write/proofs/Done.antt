@@ -21,7 +21,7 @@ use Rattle.image_write.proofs.Places.{page_write, last_entries, page_is_one, map
 use Rattle.definitions.specs.NumberPages.{meta_of, marked_numbers}
 use Rattle.definitions.specs.Tables.{frame}
 use Rattle.definitions.specs.declared.info.Info.{Info}
-use Rattle.pfn_pack.proofs.Filling.{length-marked}
+use Rattle.frame_sets.proofs.Filling.{length-marked}
 use Rattle.image_write.specs.Copies.{with_data, data_pages}
 use Rattle.image_write.specs.Writing.{Writing, IsWriting, HasTaken, AreOfImage, stream_of_sets, taken_after, writes_of, page_next, write_next}
 use Rattle.image_write.proofs.Heads.{length-stream_pages}

@@ -2,7 +2,7 @@
 use Rattle.std.specs.Prelude.{◌≡◌, ◌≤◌, ◌==◌, ℕ, List, length, map, filter, take, zip, not, Bool}
 use Rattle.std.specs.List.{list_any}
 use Rattle.definitions.specs.Tables.{frame}
-use Rattle.pfn_pack.specs.Places.{count_below}
+use Rattle.frame_sets.specs.Places.{count_below}
 
 -- the originals with their copy frames, except those whose page was all zero
 abbrev pub has_data : List ℕ → ℕ × ℕ → Bool

@@ -1,6 +1,6 @@
 -- The page frames in the sets that a caller lends.
 use Rattle.std.specs.Prelude.{ℕ, List, option_copied}
-use Rattle.pfn_pack.specs.Places.{members_in}
+use Rattle.frame_sets.specs.Places.{members_in}
 use Rattle.image_write.specs.declared.sets.Sets.{Sets}
 
 abbrev pub origs_of : Sets → List ℕ

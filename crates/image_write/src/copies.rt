@@ -2,7 +2,7 @@ ghost use Rattle.std.specs.Prelude.{◌≡◌, ◌==◌, ℕ, ◌+◌, ◌<◌, 
 ghost use Rattle.std.specs.List.{list_any};
 ghost use Rattle.image_write.specs.Copies.{with_data};
 ghost use Rattle.image_write.specs.Kept.{HasPassed};
-ghost use Rattle.pfn_pack.specs.Places.{members_in};
+ghost use Rattle.frame_sets.specs.Places.{members_in};
 
 use frame_sets::Bitmap;
 

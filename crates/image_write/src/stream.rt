@@ -1,12 +1,12 @@
 ghost use Rattle.std.specs.Prelude.{◌≡◌, ℕ, ◌^◌, ◌<◌, ◌≤◌, [], List, length, slice_index_or, option_copied};
 ghost use Rattle.definitions.specs.NumberPages.{meta_of, marked_numbers};
-ghost use Rattle.pfn_pack.specs.Places.{members_in};
+ghost use Rattle.frame_sets.specs.Places.{members_in};
 ghost use Rattle.plain_machine.specs.Image.{stream_pages};
 
 use frame_sets::Bitmap;
+use frame_sets::packing::pack;
 use image_format::info::{Info, encode};
 use page_core::Page;
-use pfn_pack::pack;
 
 /// Makes page `k` of the stream, from 0, which must be the info page or a number page.
 pub fn head_page(info: &Info, origs: &Bitmap, zeros: Option<&Bitmap>, k: u32) -> Page

@@ -20,7 +20,7 @@ use Rattle.plain_machine.specs.Stands.{IsAccepted, Reads, laid_writes}
 use Rattle.plain_machine.specs.State.{Running}
 use Rattle.image_write.proofs.Done.{AreSlots, AreDone, write_at, place_of, block_of_write, place_below}
 use Rattle.image_write.proofs.Heads.{length-stream_pages, IsPage-stream_pages}
-use Rattle.pfn_pack.proofs.Filling.{length-marked}
+use Rattle.frame_sets.proofs.Filling.{length-marked}
 use Rattle.protocol_laws.specs.Rows.{write_of_step}
 use Rattle.protocol_laws.proofs.Places.{IsFree, free_place, unused_slots-ascend}
 

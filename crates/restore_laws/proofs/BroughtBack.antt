@@ -10,7 +10,7 @@ use Rattle.definitions.specs.Disk as disk
 use Rattle.definitions.specs.Tables.{frame}
 use Rattle.definitions.specs.Zones.{top}
 use Rattle.definitions.proofs.Ascending.{head_below, IsStrictlyIncreasing-tail}
-use Rattle.pfn_pack.proofs.Members.{list_any-member, member-list_any}
+use Rattle.frame_sets.proofs.PackedMembers.{list_any-member, member-list_any}
 use Rattle.placement.specs.Waiting as waiting
 use Rattle.plain_machine.specs.Machine.{Hardware, Memory, Fits, raw_slot_entry, image_slot, is_slot_entry, IsSameMemory}
 use Rattle.plain_machine.specs.Loader.{left_free, loader_frame, has, saved_page, page_or, restored, restored_page}

@@ -4,7 +4,7 @@ use Rattle.std.proofs.lemmas.Bool.{cases_lt}
 use Rattle.std.proofs.lemmas.List.{get_or-map, length-map}
 use Rattle.definitions.specs.NumberPages.{meta_of}
 use Rattle.definitions.specs.Tables.{frame}
-use Rattle.pfn_pack.specs.Places.{count_below}
+use Rattle.frame_sets.specs.Places.{count_below}
 use Rattle.plain_machine.specs.Image.{stream_of}
 use Rattle.stream_out.specs.Bytes.{plain_image}
 use Rattle.stream_out.specs.Cursor.{IsPart, left_behind}

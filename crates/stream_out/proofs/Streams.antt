@@ -10,7 +10,7 @@ use Rattle.definitions.specs.Tables.{frame}
 use Rattle.definitions.proofs.Ascending.{length-between}
 use Rattle.definitions.proofs.ZoneNumbers.{below_top, top_at_most}
 use Rattle.frame_sets.specs.FrameSet.{FrameSet, IsFrameSet}
-use Rattle.pfn_pack.proofs.Filling.{length-marked}
+use Rattle.frame_sets.proofs.Filling.{length-marked}
 use Rattle.plain_machine.specs.Image.{stream_of, stream_pages, has_data, n_of, d_of, pages_of, info_of_image, numbers_of, with_data, without_data}
 use Rattle.page_core.specs.declared.format.Format.TheVariants.{Plain}
 use Rattle.definitions.specs.declared.info.Info.{Info}

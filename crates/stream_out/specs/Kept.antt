@@ -2,7 +2,7 @@
 use Rattle.std.specs.Prelude.{◌≡◌, ◌≤◌, ◌<◌, ℕ, ◌+◌, ◌-◌, List, length}
 use Rattle.definitions.specs.NumberPages.{meta_of}
 use Rattle.definitions.specs.Zones.{top}
-use Rattle.pfn_pack.specs.Places.{count_below}
+use Rattle.frame_sets.specs.Places.{count_below}
 use Rattle.plain_machine.specs.Image.{stream_of}
 use Rattle.stream_out.specs.Bytes.{plain_image}
 use Rattle.stream_out.specs.Cursor.{left_behind}

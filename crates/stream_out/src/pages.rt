@@ -5,10 +5,10 @@ ghost use Rattle.stream_out.specs.Pages.{info_over, stream_over};
 use crate::cursor::{Cursor, hand_out};
 use frame_arena::Frames;
 use frame_sets::Bitmap;
+use frame_sets::packing::pack;
 use image_format::info::{Info, encode};
 use machine::Hardware;
 use page_core::Page;
-use pfn_pack::pack;
 
 /// The numbers that a number page holds.
 const NUMBERS: u32 = 512;
@@ -76,7 +76,7 @@ pub fn hand_out_head(
 
 ghost use Rattle.std.specs.Prelude.{◌-◌, All};
 ghost use Rattle.definitions.specs.Tables.{frame};
-ghost use Rattle.pfn_pack.specs.Places.{count_below};
+ghost use Rattle.frame_sets.specs.Places.{count_below};
 
 /// Hands out a part of the next data page, from its page frame.
 pub fn hand_out_data(

@@ -2,7 +2,7 @@ use Rattle.std.proofs.Common.{sym, ap}
 use Rattle.std.specs.Option.{option_copied}
 use Rattle.definitions.specs.Disk.{Changes}
 use Rattle.frame_sets.specs.FrameSet.{FrameSet}
-use Rattle.pfn_pack.specs.Places.{members_in}
+use Rattle.frame_sets.specs.Places.{members_in}
 use Rattle.image_write.specs.Writing.{HasReadCopies, AreOfImage, Makes, FailsToMake, page_next, write_next, stream_of_sets}
 use Rattle.hib_core.proofs.Stepping.{zeros_members, three_sets}
 use Rattle.hib_core.proofs.write.write_step.Goals as goal

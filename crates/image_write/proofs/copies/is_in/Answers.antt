@@ -1,7 +1,7 @@
 use Rattle.std.proofs.Common.{eqb, option_copied, sym, ap, ◌∙◌}
 use Rattle.std.specs.List.{list_any}
-use Rattle.pfn_pack.specs.Places.{members_in}
-use Rattle.pfn_pack.proofs.Filling.{listed}
+use Rattle.frame_sets.specs.Places.{members_in}
+use Rattle.frame_sets.proofs.Filling.{listed}
 use Rattle.image_write.proofs.copies.is_in.Goals as goal
 
 pub returns-in-Some : goal.returns-in-Some

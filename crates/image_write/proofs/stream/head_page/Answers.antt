@@ -1,7 +1,7 @@
 use Rattle.std.proofs.Common.{◌≡◌, ℕ, ◌-◌, ◌<◌, suc, [], length, get_or, option_copied, sym, ap, ◌∙◌, arith}
 use Rattle.definitions.specs.NumberPages.{meta_of, marked_numbers}
-use Rattle.pfn_pack.specs.Places.{members_in}
-use Rattle.pfn_pack.proofs.Filling.{length-marked}
+use Rattle.frame_sets.specs.Places.{members_in}
+use Rattle.frame_sets.proofs.Filling.{length-marked}
 use Rattle.plain_machine.specs.Image.{stream_pages}
 use Rattle.image_write.proofs.Heads.{first_page, number_page_at}
 use Rattle.image_write.proofs.stream.head_page.Goals as goal

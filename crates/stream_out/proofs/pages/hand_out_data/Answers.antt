@@ -2,8 +2,8 @@ use Rattle.std.proofs.Common.{◌≡◌, ◌≤◌, ◌<◌, inl, inr, ℕ, ◌+
 use Rattle.std.proofs.lemmas.Bool.{cases_lt}
 use Rattle.std.proofs.lemmas.Option.{same_Some}
 use Rattle.definitions.specs.Tables.{frame}
-use Rattle.pfn_pack.specs.Places.{count_below}
-use Rattle.pfn_pack.proofs.Below.{next_is, count_below-next, small}
+use Rattle.frame_sets.specs.Places.{count_below}
+use Rattle.frame_sets.proofs.Below.{next_is, count_below-next, small}
 use Rattle.stream_out.specs.Cursor.{IsPart}
 use Rattle.stream_out.proofs.pages.hand_out_data.Goals as goal
 

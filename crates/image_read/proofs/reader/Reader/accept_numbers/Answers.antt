@@ -1,15 +1,15 @@
 use Rattle.std.proofs.Common.{◌≡◌, ℕ, ◌+◌, List, ◌++◌, length, Option, Some, None, Err, refl, sym, ap, ap₂, ◌∙◌, subst}
 use Rattle.std.proofs.lemmas.Result.{err_from_is_err_and}
 use Rattle.frame_sets.specs.FrameSet.{FrameSet}
-use Rattle.pfn_pack.specs.Unpacked.{Unpacked}
-use Rattle.pfn_pack.specs.Numbers.{wanted, numbers_in, marked_in}
+use Rattle.frame_sets.specs.Unpacked.{Unpacked}
+use Rattle.frame_sets.specs.Numbers.{wanted, numbers_in, marked_in}
 use Rattle.image_read.specs.Causes.{cause_of_numbers}
 use Rattle.image_read.specs.Reading.{Reading}
 use Rattle.image_read.specs.Kept.{kept_reading}
 use Rattle.image_read.specs.Faults.{pages_fault}
 use Rattle.image_read.specs.Taking.{numbers_fault, with_numbers}
 use Rattle.image_read.specs.declared.cause.Cause.{Cause}
-use Rattle.pfn_pack.proofs.Firsts.{told_ok}
+use Rattle.frame_sets.proofs.Firsts.{told_ok}
 use Rattle.image_read.proofs.Numbers.{err_with, count_listed, at_number, after_all, before_all, all_read-all, all_read-more}
 use Rattle.image_read.proofs.reader.Reader.accept_numbers.Goals as goal
 

@@ -1,6 +1,6 @@
 use Rattle.std.proofs.Common.{◌≡◌, ◌-◌, None, ℕ, refl, sym, ap, ◌∙◌, arith}
 use Rattle.page_core.specs.declared.format.Format.{Format}
-use Rattle.pfn_pack.specs.Unpacked.{Unpacked}
+use Rattle.frame_sets.specs.Unpacked.{Unpacked}
 use Rattle.plain_machine.specs.Chain.{is_fault_of}
 use Rattle.plain_machine.specs.Trace.{meta_in, data_frames}
 use Rattle.image_read.specs.Stream.{frames_in, marked_in, frame_after}

@@ -2,8 +2,8 @@ use Rattle.std.proofs.Common.{◌≡◌, ℕ, ◌+◌, Bool, true, false, not, e
 use Rattle.std.proofs.lemmas.Option.{same_Some}
 use Rattle.std.specs.List.{list_any, Contains}
 use Rattle.std.proofs.lemmas.List.Elements.{Contains-get_or}
-use Rattle.pfn_pack.specs.Places.{members_in}
-use Rattle.pfn_pack.proofs.Below.{small}
+use Rattle.frame_sets.specs.Places.{members_in}
+use Rattle.frame_sets.proofs.Below.{small}
 use Rattle.image_write.specs.Copies.{IsPassed, has_data}
 use Rattle.image_write.proofs.Cursors.{pass_one, found_next, some_left, next_orig, next_copy, next_pair, ArePaired}
 use Rattle.image_write.proofs.copies.Cursor.next.Goals as goal

@@ -1,6 +1,6 @@
 use Rattle.std.proofs.Common.{ℕ, ◌-◌, length, option_copied}
 use Rattle.image_write.specs.Copies.{IsPassed}
-use Rattle.pfn_pack.specs.Places.{members_in}
+use Rattle.frame_sets.specs.Places.{members_in}
 use Rattle.image_write.proofs.copies.Cursor.next.Given as goal
 
 abbrev pub invariant-pairs : goal.invariant-pairs

@@ -2,8 +2,8 @@ use Rattle.std.proofs.Common.{◌≡◌, ℕ, ◌+◌, ◌-◌, ◌<◌, List, [
 use Rattle.std.proofs.lemmas.List.{get_or-map}
 use Rattle.definitions.specs.NumberPages.{meta_of, marked_numbers}
 use Rattle.definitions.specs.Tables.{frame}
-use Rattle.pfn_pack.specs.Places.{members_in}
-use Rattle.pfn_pack.proofs.Filling.{length-marked}
+use Rattle.frame_sets.specs.Places.{members_in}
+use Rattle.frame_sets.proofs.Filling.{length-marked}
 use Rattle.plain_machine.specs.Image.{page_of_write}
 use Rattle.image_write.specs.Copies.{IsPassed, with_data, data_pages}
 use Rattle.image_write.specs.Kept.{writing}

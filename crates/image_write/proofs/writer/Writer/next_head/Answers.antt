@@ -1,6 +1,6 @@
 use Rattle.std.proofs.Common.{◌≡◌, [], get_or, option_copied, subst}
 use Rattle.definitions.specs.NumberPages.{marked_numbers}
-use Rattle.pfn_pack.specs.Places.{members_in}
+use Rattle.frame_sets.specs.Places.{members_in}
 use Rattle.plain_machine.specs.Image.{stream_pages}
 use Rattle.plain_machine.specs.Image.{page_of_write}
 use Rattle.image_write.specs.Writing.{Writing}

@@ -1,7 +1,7 @@
 use Rattle.std.proofs.Common.{◌≡◌, ℕ, ◌+◌, ◌-◌, List, true, option_copied, sym, ap, ap₂, ◌∙◌, subst, rules}
 use Rattle.definitions.specs.NumberPages.{meta_of}
 use Rattle.definitions.specs.Tables.{frame}
-use Rattle.pfn_pack.specs.Places.{members_in}
+use Rattle.frame_sets.specs.Places.{members_in}
 use Rattle.plain_machine.specs.Image.{is_map_write, page_of_write}
 use Rattle.image_write.specs.Copies.{IsPassed, data_pages}
 use Rattle.image_write.specs.Steps.{TakesSlots, WritesPage}

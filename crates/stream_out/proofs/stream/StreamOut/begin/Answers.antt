@@ -1,6 +1,6 @@
 use Rattle.std.proofs.Common.{ap, ◌∙◌, arith}
-use Rattle.pfn_pack.specs.Places.{count_below}
-use Rattle.pfn_pack.proofs.Below.{count_below-zero}
+use Rattle.frame_sets.specs.Places.{count_below}
+use Rattle.frame_sets.proofs.Below.{count_below-zero}
 use Rattle.plain_machine.specs.Image.{stream_of}
 use Rattle.stream_out.specs.Bytes.{plain_image}
 use Rattle.stream_out.proofs.Streams.{all_left}
