@@ -1,12 +1,13 @@
 //! The blocks that an image names, one after another.
 ghost use Rattle.std.specs.Prelude.{◌≡◌, ◌*◌, ◌<◌, ◌≤◌, length};
 
+use definitions::MAP_PAGE_ENTRIES;
 use image_check::{Progress, Report, any_block, check_name};
 use image_walk::{BlockFault, Limits, Walk};
 use page_core::{Format, Page};
 
 /// How many entries a map page has (MAP_PAGE_ENTRIES).
-const ENTRIES: usize = 511;
+const ENTRIES: usize = MAP_PAGE_ENTRIES as usize;
 
 /// What is kept of the names of an image that were checked so far.
 #[derive(Drop)]

@@ -7,6 +7,7 @@ use Rattle.boot_resume.specs.Standing.{Counted}
 use Rattle.boot_resume.specs.declared.cause.Cause.{Cause}
 use Rattle.boot_resume.specs.declared.machine.Machine.{Machine}
 use Rattle.boot_resume.specs.declared.reading.Reading.{Reading}
+use Rattle.definitions.specs.declared.counts.TheConstants.{WORDS_PER_PAGE}
 
 -- what doesn't depend on the numbers stays the same
 pub record IsKept (old new : Reading) : Type 0 where
@@ -19,7 +20,7 @@ pub record Tallied (m : Machine) (v : DiskImage) (k : ℕ) (r : Reading) : Type 
   pub counted : Counted m v r
   pub last : r.last ≡ number_before m v r.given
   pub with_data : r.with_data ≡ data_before m v r.given
-  pub place : ((r.given ≡ r.saved) × (k ≡ meta_in m v)) ⊎ ((r.given < r.saved) × (r.given ≡ 512 * k))
+  pub place : ((r.given ≡ r.saved) × (k ≡ meta_in m v)) ⊎ ((r.given < r.saved) × (r.given ≡ WORDS_PER_PAGE * k))
 
 abbrev pub AcceptsPage : Machine → DiskImage → ℕ → Reading → Result (Unit {0}) Cause → Type 0
 AcceptsPage m v k r (Ok x) = (content_cause m v k ≡ None) × Tallied m v k r

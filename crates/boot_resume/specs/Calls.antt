@@ -12,6 +12,7 @@ use Rattle.boot_resume.specs.declared.cause.Cause.{Cause}
 use Rattle.boot_resume.specs.declared.cause.Cause.TheVariants.{NoImage}
 use Rattle.boot_resume.specs.declared.call.Call.{Call}
 use Rattle.boot_resume.specs.declared.call.Call.TheVariants.{Sync, Read, Write, Page, Done, Refused}
+use Rattle.definitions.specs.declared.counts.TheConstants.{MAP_PAGE_ENTRIES, WORDS_PER_PAGE}
 
 -- a call, and the page that the buffer must hold when it is made, if that matters
 pub record Turn : Type 0 where
@@ -39,13 +40,16 @@ entry_then m v k rest = unless (page_cause m v k) (asks (Read (page_at m v k)) �
 -- page k of the stream; the first of each 511 pages is preceded by their map
 abbrev pub page_then : Machine → disk.DiskImage → ℕ → List Turn → List Turn
 page_then m v k rest =
-    if k % 511 == 0 then map_then m v (k / 511) (entry_then m v k rest) else entry_then m v k rest
+    if k % MAP_PAGE_ENTRIES == 0 then map_then m v (k / MAP_PAGE_ENTRIES) (entry_then m v k rest)
+    else entry_then m v k rest
 
 -- Before the first of each 512 numbers, their page is read again through its map: a state of fixed size can't keep them
 -- all.
 abbrev pub again_then : Machine → disk.DiskImage → ℕ → List Turn → List Turn
 again_then m v i rest =
-    if i % 512 == 0 then map_then m v ((1 + i / 512) / 511) (entry_then m v (1 + i / 512) rest) else rest
+    if i % WORDS_PER_PAGE == 0
+    then map_then m v ((1 + i / WORDS_PER_PAGE) / MAP_PAGE_ENTRIES) (entry_then m v (1 + i / WORDS_PER_PAGE) rest)
+    else rest
 
 -- the data page of number i, if it has one
 abbrev pub data_then : Machine → disk.DiskImage → ℕ → List Turn → List Turn

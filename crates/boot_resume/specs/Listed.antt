@@ -7,6 +7,7 @@ use Rattle.boot_resume.specs.OnDisk.{data_before, number_before, number_cause}
 use Rattle.boot_resume.specs.declared.cause.Cause.{Cause}
 use Rattle.boot_resume.specs.declared.machine.Machine.{Machine}
 use Rattle.boot_resume.specs.declared.numbers.Tally.{Tally}
+use Rattle.definitions.specs.declared.counts.TheConstants.{WORDS_PER_PAGE}
 
 -- the first cause among the given number of numbers from number j on
 abbrev pub first_cause : Machine → DiskImage → ℕ → ℕ → Option Cause
@@ -16,6 +17,7 @@ first_cause m v j count = first_some (map (number_cause m v) (range_with_len j c
 -- cause
 abbrev pub Lists : Machine → DiskImage → ℕ → ℕ → Result Tally Cause → Type 0
 Lists m v q count (Ok tally) =
-    (first_cause m v (512 * q) count ≡ None)
-    × ((tally.last ≡ number_before m v (512 * q + count)) × (tally.with_data ≡ data_before m v (512 * q + count)))
-Lists m v q count (Err cause) = first_cause m v (512 * q) count ≡ Some cause
+    (first_cause m v (WORDS_PER_PAGE * q) count ≡ None)
+    × ((tally.last ≡ number_before m v (WORDS_PER_PAGE * q + count))
+    × (tally.with_data ≡ data_before m v (WORDS_PER_PAGE * q + count)))
+Lists m v q count (Err cause) = first_cause m v (WORDS_PER_PAGE * q) count ≡ Some cause

@@ -22,6 +22,7 @@ use Rattle.boot_resume.specs.Memory.{block_fault, is_memory}
 use Rattle.boot_resume.specs.declared.machine.Machine.{Machine}
 use Rattle.boot_resume.specs.declared.cause.Cause.{Cause}
 use Rattle.boot_resume.specs.declared.cause.Cause.TheVariants as cause
+use Rattle.definitions.specs.declared.counts.TheConstants.{WORDS_PER_PAGE}
 
 -- What the image says, untested.
 
@@ -56,7 +57,7 @@ meta_in m v = meta_of (saved_in m v)
 
 -- number j: its word, the page frame, and whether its page is zeros and has no data page
 abbrev pub word_in : Machine → disk.DiskImage → ℕ → ℕ
-word_in m v j = word (stream_page m v (1 + j / 512)) (j % 512)
+word_in m v j = word (stream_page m v (1 + j / WORDS_PER_PAGE)) (j % WORDS_PER_PAGE)
 
 abbrev pub number_in : Machine → disk.DiskImage → ℕ → ℕ
 number_in m v j = number_by (format_by (mark_in m v).flags) (word_in m v j)
@@ -144,7 +145,8 @@ number_cause m v j = number_fault m (number_before m v j) (number_in m v j)
 -- the word after the last of n numbers, if their last page isn't full
 abbrev pub end_fault : List ℕ → ℕ → Option Cause
 end_fault page n =
-    if (n % 512 == 0) || (word page (n % 512) == end_value) then None else Some (cause.PfnEnd (word page (n % 512)))
+    if (n % WORDS_PER_PAGE == 0) || (word page (n % WORDS_PER_PAGE) == end_value) then None
+    else Some (cause.PfnEnd (word page (n % WORDS_PER_PAGE)))
 
 abbrev pub end_cause : Machine → disk.DiskImage → Option Cause
 end_cause m v = end_fault (stream_page m v (meta_in m v)) (saved_in m v)
@@ -160,7 +162,8 @@ listed_cause m v = listed_fault (saved_in m v) (info_in m v).pages (data_before 
 -- number page q, from 0
 abbrev pub numbers_cause : Machine → disk.DiskImage → ℕ → Option Cause
 numbers_cause m v q =
-    or_else (first_some (map (number_cause m v) (range_with_len (512 * q) (min 512 (saved_in m v - 512 * q)))))
+    or_else (first_some (map (number_cause m v)
+    (range_with_len (WORDS_PER_PAGE * q) (min WORDS_PER_PAGE (saved_in m v - WORDS_PER_PAGE * q)))))
     (if q + 1 == meta_in m v then or_else (end_cause m v) (listed_cause m v) else None)
 
 -- page k of the stream, up to the last number page

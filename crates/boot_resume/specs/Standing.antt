@@ -18,6 +18,7 @@ use Rattle.boot_resume.specs.declared.stage.Move.{Move}
 use Rattle.boot_resume.specs.declared.reading.Reading.{Reading}
 use Rattle.boot_resume.specs.declared.stage.Stage.{Stage}
 use Rattle.boot_resume.specs.declared.stage.Stage.TheVariants as stage
+use Rattle.definitions.specs.declared.counts.TheConstants.{MAP_PAGE_ENTRIES, WORDS_PER_PAGE}
 
 -- what the disk answers to a call: a read gives the block as the disk reads
 abbrev pub IsAnswer : DiskImage → Call → List ℕ → Type 0
@@ -46,7 +47,7 @@ behind m v r stage.TakeBack = settled_then m v
 behind m v r stage.SettleBack = unless (hardware_cause m (mark_in m v)) (listed_from m v 0)
 behind m v r stage.ListMap = entry_then m v r.page (unless (content_cause m v r.page) (listed_from m v (r.page + 1)))
 behind m v r stage.ListPage = unless (content_cause m v r.page) (listed_from m v (r.page + 1))
-behind m v r stage.NumberMap = entry_then m v (1 + r.given / 512) (from_number m v r.given)
+behind m v r stage.NumberMap = entry_then m v (1 + r.given / WORDS_PER_PAGE) (from_number m v r.given)
 behind m v r stage.NumberPage = from_number m v r.given
 behind m v r stage.DataMap = entry_then m v r.page (places m v r.given ∷ handed_from m v (r.given + 1))
 behind m v r stage.DataPage = places m v r.given ∷ handed_from m v (r.given + 1)
@@ -63,7 +64,7 @@ pub record Counted (m : Machine) (v : DiskImage) (r : Reading) : Type 0 where
 pub record ListsNumbers (m : Machine) (v : DiskImage) (r : Reading) : Type 0 where
   pub counted : Counted m v r
   pub begun : 0 < r.page
-  pub given : r.given ≡ 512 * (r.page - 1)
+  pub given : r.given ≡ WORDS_PER_PAGE * (r.page - 1)
   pub more : r.given < r.saved
   pub last : r.last ≡ number_before m v r.given
   pub with_data : r.with_data ≡ data_before m v r.given
@@ -89,8 +90,8 @@ pub record Handing (m : Machine) (v : DiskImage) (r : Reading) : Type 0 where
 
 -- the number page of number i was read again, and the next one's map is known
 pub record HasNumbers (m : Machine) (v : DiskImage) (r : Reading) : Type 0 where
-  pub numbers : r.numbers ≡ stream_page m v (1 + r.given / 512)
-  pub again : r.again ≡ map_at m v ((2 + r.given / 512) / 511)
+  pub numbers : r.numbers ≡ stream_page m v (1 + r.given / WORDS_PER_PAGE)
+  pub again : r.again ≡ map_at m v ((2 + r.given / WORDS_PER_PAGE) / MAP_PAGE_ENTRIES)
 
 -- number i has a data page, and its page frame is the pending one
 pub record Numbered (m : Machine) (v : DiskImage) (r : Reading) : Type 0 where
@@ -114,17 +115,17 @@ pub record WantsNumberMap (m : Machine) (v : DiskImage) (r : Reading) (c : Call)
   pub handing : Handing m v r
   pub map : HasMapBefore m v r.map r.page
   pub more : r.given < r.saved
-  pub first : r.given % 512 ≡ 0
-  pub again : r.again ≡ map_at m v ((1 + r.given / 512) / 511)
-  pub call : c ≡ Read (map_at m v ((1 + r.given / 512) / 511))
+  pub first : r.given % WORDS_PER_PAGE ≡ 0
+  pub again : r.again ≡ map_at m v ((1 + r.given / WORDS_PER_PAGE) / MAP_PAGE_ENTRIES)
+  pub call : c ≡ Read (map_at m v ((1 + r.given / WORDS_PER_PAGE) / MAP_PAGE_ENTRIES))
 
 pub record WantsNumberPage (m : Machine) (v : DiskImage) (r : Reading) (c : Call) : Type 0 where
   pub handing : Handing m v r
   pub map : HasMapBefore m v r.map r.page
   pub more : r.given < r.saved
-  pub first : r.given % 512 ≡ 0
-  pub again : r.again ≡ map_at m v ((2 + r.given / 512) / 511)
-  pub call : c ≡ Read (page_at m v (1 + r.given / 512))
+  pub first : r.given % WORDS_PER_PAGE ≡ 0
+  pub again : r.again ≡ map_at m v ((2 + r.given / WORDS_PER_PAGE) / MAP_PAGE_ENTRIES)
+  pub call : c ≡ Read (page_at m v (1 + r.given / WORDS_PER_PAGE))
 
 -- what a resume knows of the disk
 abbrev pub Knows : Machine → DiskImage → Reading → Stage → Call → Type 0
@@ -132,12 +133,14 @@ Knows m v r stage.FirstSync c = Unit {0}
 Knows m v r stage.Header c = c ≡ Read m.header
 Knows m v r stage.TakeBack c = r.mark ≡ mark_in m v
 Knows m v r stage.SettleBack c = r.mark ≡ mark_in m v
-Knows m v r stage.ListMap c = Listing m v r × (c ≡ Read (map_at m v (r.page / 511)))
-Knows m v r stage.ListPage c = Listing m v r × ((c ≡ Read (page_at m v r.page)) × IsMap m v r.map (r.page / 511))
+Knows m v r stage.ListMap c = Listing m v r × (c ≡ Read (map_at m v (r.page / MAP_PAGE_ENTRIES)))
+Knows m v r stage.ListPage c =
+    Listing m v r × ((c ≡ Read (page_at m v r.page)) × IsMap m v r.map (r.page / MAP_PAGE_ENTRIES))
 Knows m v r stage.NumberMap c = WantsNumberMap m v r c
 Knows m v r stage.NumberPage c = WantsNumberPage m v r c
-Knows m v r stage.DataMap c = Numbered m v r × (c ≡ Read (map_at m v (r.page / 511)))
-Knows m v r stage.DataPage c = Numbered m v r × ((c ≡ Read (page_at m v r.page)) × IsMap m v r.map (r.page / 511))
+Knows m v r stage.DataMap c = Numbered m v r × (c ≡ Read (map_at m v (r.page / MAP_PAGE_ENTRIES)))
+Knows m v r stage.DataPage c =
+    Numbered m v r × ((c ≡ Read (page_at m v r.page)) × IsMap m v r.map (r.page / MAP_PAGE_ENTRIES))
 Knows m v r stage.Place c = Placing m v r × (c ≡ Page r.frame)
 Knows m v r stage.Ended c = IsEnd c
 

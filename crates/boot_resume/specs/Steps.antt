@@ -4,7 +4,8 @@ use Rattle.std.specs.Prelude.{◌≡◌, ℕ, List}
 use Rattle.definitions.specs.SwapHeader.{IsMarked, taken_back}
 use Rattle.boot_resume.specs.declared.discard.step.Left.TheVariants.{Same, Unsure}
 use Rattle.boot_resume.specs.declared.discard.step.Step.{Step}
-use Rattle.boot_resume.specs.declared.discard.step.Step.TheVariants.{Read, Write, Sync, Discarded, NoImage, NoOriginal, Failed}
+use Rattle.boot_resume.specs.declared.discard.step.Step.TheVariants.{Read, Write, Sync, Discarded, NoImage, NoOriginal}
+use Rattle.boot_resume.specs.declared.discard.step.Step.TheVariants.{Failed}
 
 -- After the read of the header block, which gave the page `old`: the block is written with its mark taken back if and
 -- only if it is marked and no longer is once taken back.

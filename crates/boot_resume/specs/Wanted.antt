@@ -11,10 +11,11 @@ use Rattle.boot_resume.specs.declared.cause.Cause.{Cause}
 use Rattle.boot_resume.specs.declared.machine.Machine.{Machine}
 use Rattle.boot_resume.specs.declared.stage.Move.{Move}
 use Rattle.boot_resume.specs.declared.stage.Stage.{Stage}
+use Rattle.definitions.specs.declared.counts.TheConstants.{MAP_PAGE_ENTRIES}
 
 -- the entry of page k in its map
 abbrev pub entry_of : List ℕ → ℕ → ℕ
-entry_of map k = map_entry map (k % 511)
+entry_of map k = map_entry map (k % MAP_PAGE_ENTRIES)
 
 -- the block of the map whose first page is page k: the header names the first map, each map the next one
 abbrev pub begun_map : Mark → ℕ → List ℕ → ℕ
@@ -26,21 +27,21 @@ IsMap m v map j = map ≡ block v (map_at m v j)
 
 -- the map of the page before page k, if there is one
 abbrev pub HasMapBefore : Machine → DiskImage → List ℕ → ℕ → Type 0
-HasMapBefore m v map k = 0 < k → IsMap m v map ((k - 1) / 511)
+HasMapBefore m v map k = 0 < k → IsMap m v map ((k - 1) / MAP_PAGE_ENTRIES)
 
 -- the next read is that of page k's map, or that of page k through its map
 pub record WantsMap (m : Machine) (v : DiskImage) (k : ℕ) (stages : Stage
     × Stage) (rest turns : List Turn) (to : Move) : Type 0 where
   pub stage : to.stage ≡ stages.0
-  pub call : to.call ≡ Read (map_at m v (k / 511))
-  pub left : turns ≡ asks (Read (map_at m v (k / 511))) ∷ entry_then m v k rest
+  pub call : to.call ≡ Read (map_at m v (k / MAP_PAGE_ENTRIES))
+  pub left : turns ≡ asks (Read (map_at m v (k / MAP_PAGE_ENTRIES))) ∷ entry_then m v k rest
 
 pub record WantsPage (m : Machine) (v : DiskImage) (map : List ℕ) (k : ℕ) (stages : Stage
     × Stage) (rest turns : List Turn) (to : Move) : Type 0 where
   pub stage : to.stage ≡ stages.1
   pub call : to.call ≡ Read (page_at m v k)
   pub left : turns ≡ asks (Read (page_at m v k)) ∷ rest
-  pub has_map : IsMap m v map (k / 511)
+  pub has_map : IsMap m v map (k / MAP_PAGE_ENTRIES)
 
 abbrev pub Wants : Machine → DiskImage → List ℕ → ℕ → Stage × Stage → List Turn → List Turn → Result Move Cause → Type 0
 Wants m v map k stages rest turns (Ok to) =

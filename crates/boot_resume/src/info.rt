@@ -7,6 +7,7 @@ ghost use Rattle.boot_resume.specs.OnDisk.{counts_cause, field_cause, identity_c
 
 use crate::cause::Cause;
 use crate::machine::{Identity, Machine};
+use definitions::number_page_count;
 use image_format::info::{Ident, Info, check, decode};
 use page_core::{Format, Page};
 
@@ -94,7 +95,7 @@ fn check_counts(machine: &Machine, format: Format, info: &Info) -> Result<(), Ca
     if saved == 0 || saved > machine.present() {
         return Err(bad);
     }
-    let least = saved.div_ceil(512) + 1;
+    let least = number_page_count(saved) + 1;
     let fits = match format {
         Format::Plain => pages == saved + least,
         Format::SkipZeros => least <= pages && pages <= saved + least,

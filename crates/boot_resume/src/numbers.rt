@@ -9,10 +9,11 @@ ghost use Rattle.boot_resume.specs.OnDisk.{number_fault, stream_page};
 
 use crate::cause::Cause;
 use crate::machine::Machine;
+use definitions::{WORDS_PER_PAGE, number_page_count};
 use page_core::{Format, Page};
 
 /// How many numbers fill a page.
-pub(crate) const NUMBERS: u64 = 512;
+pub(crate) const NUMBERS: u64 = WORDS_PER_PAGE as u64;
 
 /// The bit of a number whose page has no data page.
 const ZERO_BIT: u64 = 1 << 63;
@@ -22,7 +23,7 @@ const END: u64 = u64::MAX;
 
 /// Returns how many numbers the next page has if `left` numbers are left.
 pub(crate) fn numbers_in_page(left: u64) -> u64
-    ensures { result ≡ min 512 left }
+    ensures { result ≡ min WORDS_PER_PAGE left }
 {
     if left < NUMBERS { left } else { NUMBERS }
 }
@@ -87,11 +88,11 @@ pub(crate) fn list_numbers(
     count: u64,
     before: Tally,
 ) -> Result<Tally, Cause>
-    requires count { count ≤ 512 }
-    requires room { before.with_data + 512 < 2 ^ 64 }
+    requires count { count ≤ WORDS_PER_PAGE }
+    requires room { before.with_data + WORDS_PER_PAGE < 2 ^ 64 }
     ensures lists { (v : DiskImage) (q : ℕ) → format ≡ format_by (mark_in machine.now v).flags →
-        page.now ≡ stream_page machine.now v (1 + q) → before.last ≡ number_before machine.now v (512 * q) →
-        before.with_data ≡ data_before machine.now v (512 * q) → Lists machine.now v q count result }
+        page.now ≡ stream_page machine.now v (1 + q) → before.last ≡ number_before machine.now v (WORDS_PER_PAGE * q) →
+        before.with_data ≡ data_before machine.now v (WORDS_PER_PAGE * q) → Lists machine.now v q count result }
     ensures data { IfOk result (λ tally. tally.with_data ≤ before.with_data + count) }
 {
     let mut tally = before;
@@ -142,7 +143,7 @@ pub(crate) fn check_listed(saved: u64, pages: u64, with_data: u64) -> Result<(),
     requires within { with_data ≤ saved }
     ensures { Tests (listed_fault saved pages with_data) result }
 {
-    if pages != with_data + saved.div_ceil(NUMBERS) + 1 {
+    if pages != with_data + number_page_count(saved) + 1 {
         return Err(Cause::BadCounts {
             image_pages: saved,
             pages,

@@ -11,11 +11,12 @@ use crate::call::Call;
 use crate::cause::Cause;
 use crate::machine::Machine;
 use crate::stage::{Move, Stage};
+use definitions::MAP_PAGE_ENTRIES;
 use image_format::Mark;
 use page_core::Page;
 
 /// How many entries a map has (MAP_PAGE_ENTRIES). The link is the word after them.
-const ENTRIES: u64 = 511;
+const ENTRIES: u64 = MAP_PAGE_ENTRIES as u64;
 
 /// Returns the block of map `map`, counted from 0, if an image may name `block` as one.
 pub(crate) fn map_named(machine: &Machine, mark: &Mark, map: u64, block: u64) -> Result<u64, Cause>
@@ -45,7 +46,7 @@ pub(crate) fn page_named(
 
 /// Returns which map, counted from 0, names the page of the stream.
 pub(crate) fn map_of(page: u64) -> u64
-    ensures { result ≡ page / 511 }
+    ensures { result ≡ page / MAP_PAGE_ENTRIES }
 {
     page / ENTRIES
 }
@@ -64,8 +65,8 @@ fn begun_map(mark: &Mark, page: u64, map: &Page) -> u64
 /// Returns the block of the map of the page after `page`. The map of `page` is `map`, in block `at`.
 pub(crate) fn map_behind(page: u64, map: &Page, at: u64) -> u64
     requires { page < 2 ^ 63 }
-    ensures begins { (page + 1) % 511 ≡ 0 → result ≡ map_link map.now }
-    ensures goes_on { ((page + 1) % 511 ≢ 0) → result ≡ at }
+    ensures begins { (page + 1) % MAP_PAGE_ENTRIES ≡ 0 → result ≡ map_link map.now }
+    ensures goes_on { ((page + 1) % MAP_PAGE_ENTRIES ≢ 0) → result ≡ at }
 {
     if begins_map(page + 1) {
         map.word(ENTRIES as usize)
@@ -76,7 +77,7 @@ pub(crate) fn map_behind(page: u64, map: &Page, at: u64) -> u64
 
 /// Returns whether a map is read before the page of the stream.
 fn begins_map(page: u64) -> bool
-    ensures { IsTrue result ↔ (page % 511 ≡ 0) }
+    ensures { IsTrue result ↔ (page % MAP_PAGE_ENTRIES ≡ 0) }
 {
     page % ENTRIES == 0
 }

@@ -1,5 +1,6 @@
 //! An image as it is read, call by call.
 ghost use Rattle.std.specs.Prelude.{◌<◌, ◌≤◌, ◌^◌};
+ghost use Rattle.definitions.specs.declared.counts.TheConstants.{MAP_PAGE_ENTRIES, WORDS_PER_PAGE};
 
 use crate::call::Call;
 use crate::cause::Cause;
@@ -162,7 +163,7 @@ impl Reading {
     /// Takes a map, and continues with the page that wanted it.
     fn take_list_map(&mut self, machine: &Machine, page: &Page) -> Result<Move, Cause>
         ensures leads { (v : DiskImage) → Listing machine.now v self.old →
-            page.now ≡ block v (map_at machine.now v (self.old.page / 511)) →
+            page.now ≡ block v (map_at machine.now v (self.old.page / MAP_PAGE_ENTRIES)) →
             Leads machine.now v self.new page.now (behind machine.now v self.old ListMap) result }
         ensures asks { (made : List Call) → HasBegun machine.now made → newest made ≡ None →
             AsksOn machine.now self.new made result }
@@ -178,7 +179,7 @@ impl Reading {
     /// Takes the info page or a number page.
     fn take_listed(&mut self, machine: &Machine, page: &Page) -> Result<Move, Cause>
         ensures leads { (v : DiskImage) → Listing machine.now v self.old →
-            IsMap machine.now v self.old.map (self.old.page / 511) →
+            IsMap machine.now v self.old.map (self.old.page / MAP_PAGE_ENTRIES) →
             page.now ≡ stream_page machine.now v self.old.page →
             Leads machine.now v self.new page.now (behind machine.now v self.old ListPage) result }
         ensures asks { (made : List Call) → HasBegun machine.now made → newest made ≡ None →
@@ -268,8 +269,8 @@ impl Reading {
     fn want_numbers(&self, machine: &Machine) -> Result<Move, Cause>
         ensures leads { (v : DiskImage) (page : List ℕ) → Handing machine.now v self.now →
             HasMapBefore machine.now v self.now.map self.now.page → self.now.given < self.now.saved →
-            self.now.given % 512 ≡ 0 →
-            self.now.again ≡ map_at machine.now v ((1 + self.now.given / 512) / 511) →
+            self.now.given % WORDS_PER_PAGE ≡ 0 →
+            self.now.again ≡ map_at machine.now v ((1 + self.now.given / WORDS_PER_PAGE) / MAP_PAGE_ENTRIES) →
             Leads machine.now v self.now page (handed_from machine.now v self.now.given) result }
         ensures asks { (made : List Call) → HasBegun machine.now made → newest made ≡ self.now.last →
             AsksOn machine.now self.now made result }
@@ -284,14 +285,14 @@ impl Reading {
 
     /// Returns the page of the stream that holds the next number.
     fn number_page(&self) -> u64
-        ensures { result ≡ 1 + self.now.given / 512 }
+        ensures { result ≡ 1 + self.now.given / WORDS_PER_PAGE }
     {
         1 + self.given / NUMBERS
     }
 
     fn take_number_map(&mut self, machine: &Machine, page: &Page) -> Result<Move, Cause>
         ensures leads { (v : DiskImage) (c : Call) → WantsNumberMap machine.now v self.old c →
-            page.now ≡ block v (map_at machine.now v ((1 + self.old.given / 512) / 511)) →
+            page.now ≡ block v (map_at machine.now v ((1 + self.old.given / WORDS_PER_PAGE) / MAP_PAGE_ENTRIES)) →
             Leads machine.now v self.new page.now (behind machine.now v self.old NumberMap) result }
         ensures asks { (made : List Call) → HasBegun machine.now made → newest made ≡ self.old.last →
             AsksOn machine.now self.new made result }
@@ -307,7 +308,7 @@ impl Reading {
 
     fn take_number_page(&mut self, machine: &Machine, page: &mut Page) -> Result<Move, Cause>
         ensures leads { (v : DiskImage) (c : Call) → WantsNumberPage machine.now v self.old c →
-            page.old ≡ stream_page machine.now v (1 + self.old.given / 512) →
+            page.old ≡ stream_page machine.now v (1 + self.old.given / WORDS_PER_PAGE) →
             Leads machine.now v self.new page.new (from_number machine.now v self.old.given) result }
         ensures asks { (made : List Call) → HasBegun machine.now made → newest made ≡ self.old.last →
             AsksOn machine.now self.new made result }
@@ -354,7 +355,7 @@ impl Reading {
 
     fn take_data_map(&mut self, machine: &Machine, page: &Page) -> Result<Move, Cause>
         ensures leads { (v : DiskImage) → Numbered machine.now v self.old →
-            page.now ≡ block v (map_at machine.now v (self.old.page / 511)) →
+            page.now ≡ block v (map_at machine.now v (self.old.page / MAP_PAGE_ENTRIES)) →
             Leads machine.now v self.new page.now (behind machine.now v self.old DataMap) result }
         ensures asks { (made : List Call) → HasBegun machine.now made → newest made ≡ self.old.last →
             MayPlace machine.now self.old.frame self.old.last →
@@ -370,7 +371,7 @@ impl Reading {
 
     fn take_data_page(&mut self) -> Result<Move, Cause>
         ensures leads { (m : Machine) (v : DiskImage) (page : List ℕ) → Numbered m v self.old →
-            IsMap m v self.old.map (self.old.page / 511) →
+            IsMap m v self.old.map (self.old.page / MAP_PAGE_ENTRIES) →
             page ≡ stream_page m v self.old.page → Leads m v self.new page (behind m v self.old DataPage) result }
         ensures asks { (m : Machine) (made : List Call) → HasBegun m made → newest made ≡ self.old.last →
             MayPlace m self.old.frame self.old.last →

@@ -1,5 +1,5 @@
-//! Where the program's bytes come from and go to: sources, sinks, the lines that are printed, those of facts too, and the
-//! standard streams themselves.
+//! Where the program's bytes come from and go to: sources, sinks, the lines that are printed, those of facts too, and
+//! the standard streams themselves.
 #![tactic(auto)]
 
 mod calls;

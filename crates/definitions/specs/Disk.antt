@@ -4,6 +4,7 @@ use Rattle.std.specs.Prelude.{◌≡◌, ℕ, ◌+◌, ◌*◌, ◌^◌, ◌-◌
 use Rattle.std.specs.Prelude.{Contains, All, Option, Some, None, slice_index_or}
 use Rattle.std.specs.List.{concat}
 use Rattle.definitions.specs.Bytes.{bytes_at}
+use Rattle.definitions.specs.declared.counts.TheConstants.{SECTOR_SIZE}
 
 -- A sector: the bytes that a read gives, and the candidates, one of which a cut leaves.
 pub record Sector : Type 0 where
@@ -23,7 +24,7 @@ DiskImage = List (List ℕ)
 
 -- each candidate has 512 bytes, and the live bytes are one of them
 pub record IsSector (s : Sector) : Type 0 where
-  pub each : All (λ bytes. length bytes ≡ 512) s.candidates
+  pub each : All (λ bytes. length bytes ≡ SECTOR_SIZE) s.candidates
   pub live : Contains s.candidates s.live
 
 -- the content of a disk of `blocks` blocks
@@ -66,7 +67,7 @@ pub record TakesBytes (bytes : List ℕ) (old new : Sector) : Type 0 where
 
 -- sector j of a page
 abbrev pub sector_bytes : List ℕ → ℕ → List ℕ
-sector_bytes page j = bytes_at 512 page (512 * j)
+sector_bytes page j = bytes_at SECTOR_SIZE page (SECTOR_SIZE * j)
 
 -- a write: each sector of block b takes its bytes of the page
 pub record Writes (b : ℕ) (page : List ℕ) (old new : Content) : Type 0 where

@@ -3,6 +3,7 @@ use Rattle.std.specs.Prelude.{ℕ, ◌+◌, ◌*◌, ◌/◌, ◌%◌, ◌^◌, 
 use Rattle.std.specs.Prelude.{slice_index_or, ◌==◌, nat_lt, if◌then◌else◌}
 use Rattle.std.specs.List.{list_any, range_with_len}
 use Rattle.byteorder.specs.Endian.{little_bytes}
+use Rattle.definitions.specs.declared.counts.TheConstants.{WORDS_PER_PAGE}
 use Rattle.definitions.specs.Bytes.{zero_page, with_bytes, word}
 
 -- the page whose first words are these; the others are 0
@@ -11,7 +12,7 @@ page_of_words words = with_bytes zero_page 0 (flat_map (little_bytes 8) words)
 
 -- how many pages n numbers take, 512 in each
 abbrev pub meta_of : ℕ → ℕ
-meta_of n = (n + 511) / 512
+meta_of n = (n + 511) / WORDS_PER_PAGE
 
 -- the word after the last number, if the number page isn't full (BM_END_OF_MAP)
 abbrev pub end_value : ℕ
@@ -27,7 +28,7 @@ marked_numbers frames zeros = map (λ p. if list_any (λ q. q == p) zeros then p
 
 -- number page k: its up to 512 numbers, then the end value if they don't fill it
 unfoldable pub number_page : List ℕ → ℕ → List ℕ
-number_page numbers k = page_of_words (take 512 (drop (512 * k) (numbers ++ end_value ∷ [])))
+number_page numbers k = page_of_words (take WORDS_PER_PAGE (drop (WORDS_PER_PAGE * k) (numbers ++ end_value ∷ [])))
 
 -- all number pages
 abbrev pub number_pages : List ℕ → List (List ℕ)
@@ -39,4 +40,4 @@ number_of_word w = w % zero_bit
 
 -- word j of these pages, 512 in each
 abbrev pub word_at : List (List ℕ) → ℕ → ℕ
-word_at pages j = word (slice_index_or pages (j / 512) []) (j % 512)
+word_at pages j = word (slice_index_or pages (j / WORDS_PER_PAGE) []) (j % WORDS_PER_PAGE)

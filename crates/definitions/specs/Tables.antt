@@ -4,6 +4,7 @@ use Rattle.std.specs.Prelude.{[], ◌∷◌, length, slice_index_or, slice_set, 
 use Rattle.definitions.specs.Bytes.{number_at, with_number}
 use Rattle.std.specs.List.{range_with_len}
 use Rattle.definitions.specs.Zones.{numbers}
+use Rattle.definitions.specs.declared.counts.TheConstants.{ENTRIES_PER_FRAME}
 
 -- the content of page frame p
 abbrev pub frame : List (List ℕ) → ℕ → List ℕ
@@ -15,11 +16,11 @@ with_frame frames p page = slice_set frames p page
 
 -- Entry k of the table of 4-byte numbers whose first page frame is `table`: 1024 of them in each frame.
 unfoldable pub entry_at : List (List ℕ) → ℕ → ℕ → ℕ
-entry_at frames table k = number_at 4 (frame frames (table + k / 1024)) (4 * (k % 1024))
+entry_at frames table k = number_at 4 (frame frames (table + k / ENTRIES_PER_FRAME)) (4 * (k % ENTRIES_PER_FRAME))
 
 -- The number of page frames that a table of n entries takes, in a row.
 abbrev pub table_frame_count : ℕ → ℕ
-table_frame_count n = (n + 1023) / 1024
+table_frame_count n = (n + 1023) / ENTRIES_PER_FRAME
 
 -- memory has all page frames of a table of n entries
 abbrev pub HasTable : List (List ℕ) → ℕ → ℕ → Type 0
@@ -28,7 +29,8 @@ HasTable frames table n = table + table_frame_count n ≤ length frames
 -- memory with entry k of the table set to v
 unfoldable pub with_entry : List (List ℕ) → ℕ → ℕ → ℕ → List (List ℕ)
 with_entry frames table k v =
-    with_frame frames (table + k / 1024) (with_number 4 (frame frames (table + k / 1024)) (4 * (k % 1024)) v)
+    with_frame frames (table + k / ENTRIES_PER_FRAME)
+    (with_number 4 (frame frames (table + k / ENTRIES_PER_FRAME)) (4 * (k % ENTRIES_PER_FRAME)) v)
 
 -- memory with each of these entries of the table set to v
 unfoldable pub with_entries : List (List ℕ) → ℕ → List ℕ → ℕ → List (List ℕ)

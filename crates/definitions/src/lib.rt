@@ -2,6 +2,11 @@
 //! mean.
 #![tactic(auto)]
 
+mod counts;
 mod info;
 
+pub use counts::{
+    BLOCKS_PER_MAP, ENTRIES_PER_FRAME, MAP_PAGE_ENTRIES, PAGES_FOR_IO, SECTOR_SIZE, SPARE_FRAMES,
+    SPARE_SLOTS, WORDS_PER_PAGE, number_page_count,
+};
 pub use info::{Field, Ident, Info};

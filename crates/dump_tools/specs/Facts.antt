@@ -14,6 +14,7 @@ use Rattle.dump_tools.specs.declared.facts.fact.Fact.{Fact}
 use Rattle.dump_tools.specs.declared.facts.fact.Fact.TheVariants as fact
 use Rattle.byte_streams.specs.declared.facts.name.Name.{Name}
 use Rattle.byte_streams.specs.declared.facts.name.Name.TheVariants as name
+use Rattle.definitions.specs.declared.counts.TheConstants.{SPARE_FRAMES, SPARE_SLOTS}
 
 abbrev pub zone_fact : ℕ × ℕ → Fact
 zone_fact zone = fact.Zone zone.0 zone.1
@@ -62,7 +63,7 @@ owned_slots h m = owned_by fact.OwnedSlots (λ t. length (slots_of h m t)) tasks
 abbrev pub frame_facts : Hardware → Memory → List Fact
 frame_facts h m =
     (fact.SaveableFrames (length (saveable h m)) ∷ fact.FreeFrames (length (unused h m))
-    ∷ fact.NeededFrames (length (saveable h m) + 1025) ∷ [])
+    ∷ fact.NeededFrames (length (saveable h m) + SPARE_FRAMES) ∷ [])
     ++ owned_frames h m
 
 -- slots: how many are free or bad, and those of the tasks
@@ -74,11 +75,11 @@ slot_facts h m =
 -- What an image of n page frames takes, d of which have data: the pages of its stream, and how many slots must be free
 -- for a hibernation (enough_swap).
 abbrev pub image_facts : Format → ℕ → ℕ → List Fact
-image_facts f n d = fact.Image f n d (d + meta_of n + 1) ∷ fact.NeededSlots f (d + meta_of n + 1 + 1026) ∷ []
+image_facts f n d = fact.Image f n d (d + meta_of n + 1) ∷ fact.NeededSlots f (d + meta_of n + 1 + SPARE_SLOTS) ∷ []
 
 -- the image of a memory
 abbrev pub facts_of_image : Format → Image → List Fact
-facts_of_image f i = fact.Image f (n_of i) (d_of i) (pages_of i) ∷ fact.NeededSlots f (pages_of i + 1026) ∷ []
+facts_of_image f i = fact.Image f (n_of i) (d_of i) (pages_of i) ∷ fact.NeededSlots f (pages_of i + SPARE_SLOTS) ∷ []
 
 unfoldable pub images_facts : Hardware → Memory → List Fact
 images_facts h m =

@@ -9,6 +9,7 @@ use Rattle.image_check.specs.declared.finding.Place.{Place}
 use Rattle.expanded_disk.specs.declared.units.chain.Chain.{Chain}
 use Rattle.expanded_disk.specs.declared.units.chain.Read.{Read}
 use Rattle.expanded_disk.specs.declared.units.chain.Read.TheVariants.{Page, Wrong}
+use Rattle.definitions.specs.declared.counts.TheConstants.{MAP_PAGE_ENTRIES}
 
 -- these are the blocks of the first maps, and all blocks of the maps and pages so far are blocks of the disk
 pub record IsChain (blocks : ℕ) (v : DiskImage) (first count : ℕ) (maps : List ℕ) : Type 0 where
@@ -22,7 +23,7 @@ pub record StandsAt (content : Option Content) (c : Chain) : Type 0 where
   pub follows : Follows c.first c.walker history
   pub read : HasRead c.walker.limits c.first content c.count history
   pub mapped : length c.maps.items ≡ maps_in history
-  pub enough : c.count ≤ 511 * length c.maps.items
+  pub enough : c.count ≤ MAP_PAGE_ENTRIES * length c.maps.items
   pub chain : IfSome content (λ held. IsChain c.walker.limits.blocks (as_it_reads held) c.first c.count c.maps.items)
 
 -- the chain that is read stays the same

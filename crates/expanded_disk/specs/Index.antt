@@ -9,6 +9,7 @@ use Rattle.expanded_disk.specs.Chains.{IsChain}
 use Rattle.expanded_disk.specs.Names.{chain_of}
 use Rattle.expanded_disk.specs.Units.{IsUnit, checksum_of, start_of, units_of}
 use Rattle.expanded_disk.specs.declared.units.index.Index.{Index}
+use Rattle.definitions.specs.declared.counts.TheConstants.{MAP_PAGE_ENTRIES}
 
 -- the first map that the header block names, and the chain from there on
 abbrev pub first_of : DiskImage → ℕ → ℕ
@@ -38,7 +39,7 @@ pub record IsIndexOf (blocks : ℕ) (v : DiskImage) (first : ℕ) (header : List
   pub info_is : index.info ≡ chain_of v first 0
   pub pages_are : index.pages ≡ pages_of_chain (chain_of v first)
   pub maps : IsChain blocks v first (start_of (chain_of v first) (units_of index.pages)) index.maps.items
-  pub enough : start_of (chain_of v first) (units_of index.pages) ≤ 511 * length index.maps.items
+  pub enough : start_of (chain_of v first) (units_of index.pages) ≤ MAP_PAGE_ENTRIES * length index.maps.items
   pub starts_count : length index.starts.items ≡ units_of index.pages + 1
   pub starts : (j : ℕ) → j ≤ units_of index.pages → slice_index index.starts.items j ≡ start_of (chain_of v first) j
   pub units : (j : ℕ) → j < units_of index.pages → IsUnit (chain_of v first) index.pages j

@@ -13,10 +13,11 @@ use Rattle.expanded_disk.specs.Units.{bytes_of}
 use Rattle.sector_disk.specs.Recorded.{after}
 use Rattle.sector_disk.specs.declared.recorded.Recorded.TheVariants.{Write}
 use Rattle.expanded_disk.specs.declared.refused.Refused.{Refused}
+use Rattle.definitions.specs.declared.counts.TheConstants.{BLOCKS_PER_MAP, MAP_PAGE_ENTRIES, WORDS_PER_PAGE}
 
 -- how many maps and how many blocks an image with the given number of pages takes
 abbrev pub maps_for : ℕ → ℕ
-maps_for pages = (pages + 510) / 511
+maps_for pages = (pages + 510) / MAP_PAGE_ENTRIES
 
 abbrev pub blocks_for : ℕ → ℕ
 blocks_for pages = 1 + pages + maps_for pages
@@ -24,11 +25,12 @@ blocks_for pages = 1 + pages + maps_for pages
 -- word i of map m: the block of its entry i, or, after the entries, the block of the next map; 0 if there is none
 abbrev pub map_word : (pages m i : ℕ) → ℕ
 map_word pages m i =
-    if i == 511 then (if nat_lt (511 * m + 511) pages then 512 * m + 513 else 0)
-    else if nat_lt (511 * m + i) pages then 512 * m + i + 2 else 0
+    if i == MAP_PAGE_ENTRIES
+    then (if nat_lt (MAP_PAGE_ENTRIES * m + MAP_PAGE_ENTRIES) pages then BLOCKS_PER_MAP * m + 513 else 0)
+    else if nat_lt (MAP_PAGE_ENTRIES * m + i) pages then BLOCKS_PER_MAP * m + i + 2 else 0
 
 unfoldable pub laid_map : (pages m : ℕ) → List ℕ
-laid_map pages m = page_of_words (map (map_word pages m) (range_with_len 0 512))
+laid_map pages m = page_of_words (map (map_word pages m) (range_with_len 0 WORDS_PER_PAGE))
 
 -- the flags of an image that isn't compressed, and has no checksum (SF_NOCOMPRESS_MODE is 2, SF_CRC32_MODE 4)
 abbrev pub plain_flags_of : ℕ → ℕ
@@ -53,8 +55,8 @@ expanded_page chain pages k =
 unfoldable pub laid_block : (header : List ℕ) → (page : ℕ → List ℕ) → (pages b : ℕ) → List ℕ
 laid_block header page pages b =
     if b == 0 then header
-    else if (b - 1) % 512 == 0 then laid_map pages ((b - 1) / 512)
-    else page (511 * ((b - 1) / 512) + (b - 1) % 512 - 1)
+    else if (b - 1) % BLOCKS_PER_MAP == 0 then laid_map pages ((b - 1) / BLOCKS_PER_MAP)
+    else page (MAP_PAGE_ENTRIES * ((b - 1) / BLOCKS_PER_MAP) + (b - 1) % BLOCKS_PER_MAP - 1)
 
 -- the first n blocks as a disk
 unfoldable pub image_of_blocks : (ℕ → List ℕ) → ℕ → DiskImage

@@ -11,13 +11,19 @@ use Rattle.image_check.specs.Entries.{place_of}
 use Rattle.image_check.specs.declared.finding.Finding.{Finding}
 use Rattle.image_check.specs.declared.finding.Finding.TheVariants as finding
 use Rattle.image_check.specs.declared.finding.Place.{Place}
+use Rattle.definitions.specs.declared.counts.TheConstants.{MAP_PAGE_ENTRIES}
 
 -- page k of the chain whose first map is block `first`, and the entry that names it
 abbrev pub chain_of : DiskImage → (first k : ℕ) → List ℕ
 chain_of v first k = block v (entry_block v first k)
 
 abbrev pub place_in : DiskImage → (first k : ℕ) → Place
-place_in v first k = record { map = k / 511 + 1; at = map_block v first (k / 511); entry = k % 511 }
+place_in v first k =
+    record {
+      map = k / MAP_PAGE_ENTRIES + 1;
+      at = map_block v first (k / MAP_PAGE_ENTRIES);
+      entry = k % MAP_PAGE_ENTRIES;
+    }
 
 -- each name has a page
 abbrev pub AreAllRead : List Name → Type 0

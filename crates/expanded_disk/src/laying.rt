@@ -5,13 +5,18 @@ ghost use Rattle.expanded_disk.specs.Laid.{blocks_for, laid_map, map_word, plain
 ghost use Rattle.expanded_disk.specs.Parts.{IsPart};
 
 use crate::units::SF_CRC32_MODE;
+use definitions::{BLOCKS_PER_MAP, MAP_PAGE_ENTRIES, WORDS_PER_PAGE};
 use image_format::SF_NOCOMPRESS_MODE;
 use page_core::Page;
 
 /// The number of entries of a map page (MAP_PAGE_ENTRIES), and the number of its words.
-const ENTRIES: u64 = 511;
+const ENTRIES: u64 = MAP_PAGE_ENTRIES as u64;
 
-const WORDS: u64 = 512;
+/// The blocks of a map and its pages.
+const BLOCKS: u64 = BLOCKS_PER_MAP as u64;
+
+/// The words of a page.
+const WORDS: u64 = WORDS_PER_PAGE as u64;
 
 /// The offsets in bytes of the fields of the header block (`union swap_header`, include/linux/swap.h; struct
 /// swsusp_header, kernel/power/swap.c).
@@ -41,11 +46,11 @@ pub(crate) fn part_of(b: u32) -> Part
         return Part::Header;
     }
     let behind = u64::from(b) - 1;
-    let map = behind / WORDS;
-    if behind % WORDS == 0 {
+    let map = behind / BLOCKS;
+    if behind % BLOCKS == 0 {
         Part::Map(map)
     } else {
-        Part::Page(ENTRIES * map + behind % WORDS - 1)
+        Part::Page(ENTRIES * map + behind % BLOCKS - 1)
     }
 }
 
@@ -104,17 +109,17 @@ pub(crate) fn laid_map(pages: u64, map: u64) -> Page
 /// Returns a word of that map.
 fn map_word(pages: u64, map: u64, word: u64) -> u64
     requires map { map < 2 ^ 32 }
-    requires word { word < 512 }
+    requires word { word < WORDS_PER_PAGE }
     ensures { result ≡ map_word pages map word }
 {
     if word == ENTRIES {
         if ENTRIES * map + ENTRIES < pages {
-            WORDS * map + WORDS + 1
+            BLOCKS * map + BLOCKS + 1
         } else {
             0
         }
     } else if ENTRIES * map + word < pages {
-        WORDS * map + word + 2
+        BLOCKS * map + word + 2
     } else {
         0
     }

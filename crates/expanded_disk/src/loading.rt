@@ -11,11 +11,12 @@ ghost use Rattle.std.specs.Option.{ForSome};
 
 use crate::kept::Kept;
 use crate::units::{Index, Source, Unit, Walks, is_length, pages_with, size_of};
+use definitions::MAP_PAGE_ENTRIES;
 use overlay_disk::Original;
 use page_core::{Failed, Page};
 
 /// How many entries a map page has (MAP_PAGE_ENTRIES).
-const ENTRIES: u64 = 511;
+const ENTRIES: u64 = MAP_PAGE_ENTRIES as u64;
 
 /// The number of pages of a unit (LZO_UNC_PAGES).
 const PAGES: u64 = 32;

@@ -15,6 +15,7 @@ use Rattle.expanded_disk.specs.Names.{chain_of}
 use Rattle.expanded_disk.specs.Units.{start_of, units_of}
 use Rattle.expanded_disk.specs.declared.units.index.Index.{Index}
 use Rattle.expanded_show.specs.declared.gathered.Gathered.{Gathered}
+use Rattle.definitions.specs.declared.counts.TheConstants.{MAP_PAGE_ENTRIES}
 
 -- the block of a map that reads as `page`, and the blocks that its first entries name
 abbrev pub named_by : (at : ℕ) → (page : List ℕ) → (entries : ℕ) → List ℕ
@@ -25,7 +26,8 @@ unfoldable pub chain_blocks : DiskImage → (first count maps : ℕ) → List �
 chain_blocks v first count zero = []
 chain_blocks v first count (suc m) =
     chain_blocks v first count m
-    ++ named_by (map_block v first m) (block v (map_block v first m)) (min 511 (count - 511 * m))
+    ++ named_by (map_block v first m) (block v (map_block v first m))
+    (min MAP_PAGE_ENTRIES (count - MAP_PAGE_ENTRIES * m))
 
 -- how many pages the chain of a whole image has: the info page, and those that its units take
 abbrev pub chain_length : DiskImage → Index → ℕ
@@ -40,9 +42,10 @@ FailsToRead content before now = IsSome content → HasRisen before now
 pub record AreBlockFacts (content : Option Content) (before now : ℕ) (index : Index) (facts : List Fact) : Type 0 where
   pub maps : ℕ
   pub blocks : List ℕ
-  pub unread : IfSome content (λ held. 511 * maps < chain_length (as_it_reads held) index → HasRisen before now)
+  pub unread : IfSome content (λ held. MAP_PAGE_ENTRIES * maps < chain_length (as_it_reads held) index →
+      HasRisen before now)
   pub are : IfSome content (λ held.
-      (maps ≤ (chain_length (as_it_reads held) index + 510) / 511)
+      (maps ≤ (chain_length (as_it_reads held) index + 510) / MAP_PAGE_ENTRIES)
       × (blocks ≡ chain_blocks (as_it_reads held) index.first (chain_length (as_it_reads held) index) maps))
   pub says : facts ≡ map block_run (runs_of blocks) ++ fact.Maps maps ∷ []
 

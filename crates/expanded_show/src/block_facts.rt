@@ -9,6 +9,7 @@ ghost use Rattle.expanded_disk.specs.Units.{units_of};
 ghost use Rattle.expanded_show.specs.Blocks.{AreAreaFacts, AreBlockFacts, FailsToRead, chain_length, unit_facts};
 
 use crate::gathered::{Gathered, push};
+use definitions::MAP_PAGE_ENTRIES;
 use expanded_disk::{Index, units_of};
 use image_show::Fact;
 use page_core::{Failed, NoMemory, Page};
@@ -16,7 +17,7 @@ use sector_disk::Disk;
 use std::alloc::Global;
 
 /// The number of entries of a map page (MAP_PAGE_ENTRIES).
-const ENTRIES: u64 = 511;
+const ENTRIES: u64 = MAP_PAGE_ENTRIES as u64;
 
 /// The number of bytes of a page.
 const PAGE: u64 = 4096;
@@ -93,9 +94,9 @@ fn page_count(index: &Index) -> u64
 
 /// Returns how many entries map `number` has, in a chain of `count` pages.
 fn entries_in(count: u64, number: u64) -> u64
-    requires { 511 * number < count }
-    ensures entries { result ≡ min 511 (count - 511 * number) }
-    ensures few { result ≤ 511 }
+    requires { MAP_PAGE_ENTRIES * number < count }
+    ensures entries { result ≡ min MAP_PAGE_ENTRIES (count - MAP_PAGE_ENTRIES * number) }
+    ensures few { result ≤ MAP_PAGE_ENTRIES }
 {
     ENTRIES.min(count - ENTRIES * number)
 }
@@ -109,7 +110,8 @@ fn read_map<D: Disk>(
 ) -> Result<u64, Failed>
     requires indexed { ForSome (D.content disk.old) (λ held.
         IsIndexOf (D.block_count disk.old) (as_it_reads held) index.now.first index.now.header index.now) }
-    requires inside { ForSome (D.content disk.old) (λ held. 511 * number < chain_length (as_it_reads held) index.now) }
+    requires inside { ForSome (D.content disk.old)
+        (λ held. MAP_PAGE_ENTRIES * number < chain_length (as_it_reads held) index.now) }
     ensures at { IfOk result (λ at. IfSome (D.content disk.old) (λ held.
         (at ≡ map_block (as_it_reads held) index.now.first number) × (into.new ≡ block (as_it_reads held) at))) }
     ensures cause { OnErr result (FailsToRead (D.content disk.old) (D.faults disk.old) (D.faults disk.new)) }

@@ -6,6 +6,7 @@ ghost use Rattle.definitions.specs.FreeRuns.{runs_of};
 ghost use Rattle.image_show.specs.Runs.{count_of};
 ghost use Rattle.image_show.specs.Told.{block_run};
 ghost use Rattle.image_show.specs.declared.facts.fact.Fact.TheVariants.{Maps};
+ghost use Rattle.definitions.specs.declared.counts.TheConstants.{BLOCKS_PER_MAP, MAP_PAGE_ENTRIES};
 
 use image_show::{Fact, Runs};
 use page_core::{NoMemory, Page};
@@ -47,11 +48,11 @@ impl Gathered {
 
     /// Adds the block of a map, and those that its first entries name.
     pub fn add_map(&mut self, at: u64, page: &Page, entries: u64) -> Result<(), NoMemory>
-        requires few { entries ≤ 511 }
-        requires room { count_of self.old.runs.last + 512 < 2 ^ 64 }
+        requires few { entries ≤ MAP_PAGE_ENTRIES }
+        requires room { count_of self.old.runs.last + BLOCKS_PER_MAP < 2 ^ 64 }
         ensures added { (numbers : List ℕ) → HasGathered numbers self.old → OnOk result
             (HasGathered (numbers ++ at ∷ map (word page.now) (range_with_len 0 entries)) self.new) }
-        ensures count { count_of self.new.runs.last ≤ count_of self.old.runs.last + 512 }
+        ensures count { count_of self.new.runs.last ≤ count_of self.old.runs.last + BLOCKS_PER_MAP }
     {
         self.add(at)?;
         for i in 0..entries {

@@ -6,6 +6,7 @@ ghost use Rattle.definitions.specs.Bytes.{IsPage, word, with_word, number_at, wi
 ghost use Rattle.definitions.specs.Tables.{frame, with_frame};
 ghost use Rattle.definitions.specs.FrameRuns.{run_at, with_run};
 ghost use Rattle.frame_arena.specs.Places.{contents, shared_page, AreKept};
+ghost use Rattle.definitions.specs.declared.counts.TheConstants.{WORDS_PER_PAGE};
 
 use page_core::{NoMemory, Page};
 use std::alloc::Global;
@@ -168,7 +169,7 @@ impl Frames {
     /// Returns the 8-byte number at offset 8i of page frame `p`.
     pub fn word(&self, p: u32, i: usize) -> u64
         requires frame_in_range { p < length self.now }
-        requires word_in_range { i < 512 }
+        requires word_in_range { i < WORDS_PER_PAGE }
         ensures { result ≡ word (frame self.now p) i }
     {
         self.page(p).word(i)
@@ -177,7 +178,7 @@ impl Frames {
     /// Sets the 8-byte number at offset 8i of page frame `p`, and leaves the rest.
     pub fn set_word(&mut self, p: u32, i: usize, v: u64)
         requires frame_in_range { p < length self.old }
-        requires word_in_range { i < 512 }
+        requires word_in_range { i < WORDS_PER_PAGE }
         ensures { self.new ≡ with_frame self.old p (with_word (frame self.old p) i v) }
     {
         self.page_mut(p).set_word(i, v);

@@ -10,6 +10,7 @@ use Rattle.definitions.specs.NumberPages.{number_of_word, zero_bit, end_value}
 use Rattle.frame_sets.specs.Unpacked.{Unpacked}
 use Rattle.frame_sets.specs.declared.packing.unpack.PfnFault.{PfnFault}
 use Rattle.frame_sets.specs.declared.packing.unpack.PfnFault.TheVariants.{BadPfn, PfnOrder, PfnEnd}
+use Rattle.definitions.specs.declared.counts.TheConstants.{WORDS_PER_PAGE}
 
 -- the number of a word, and whether its page has no data page
 abbrev pub number_by : Format → ℕ → ℕ
@@ -40,7 +41,7 @@ number_fault zones before p =
 
 -- How many numbers the next page has, its number j, from 0, and the number before that.
 abbrev pub wanted : Unpacked → ℕ
-wanted u = min (u.n - u.read) 512
+wanted u = min (u.n - u.read) WORDS_PER_PAGE
 
 abbrev pub number_in : Unpacked → List ℕ → ℕ → ℕ
 number_in u page j = number_by u.format (word page j)
@@ -52,7 +53,7 @@ before_in u page (suc j) = Some (number_in u page j)
 -- the fault of the word after the last number, if that number doesn't fill its page
 abbrev pub end_fault : Unpacked → List ℕ → Option PfnFault
 end_fault u page =
-    if nat_lt (u.n - u.read) 512 && not (word page (u.n - u.read) == end_value)
+    if nat_lt (u.n - u.read) WORDS_PER_PAGE && not (word page (u.n - u.read) == end_value)
     then Some (PfnEnd (word page (u.n - u.read))) else None
 
 -- the fault of number j of the next page, and the first fault of the page

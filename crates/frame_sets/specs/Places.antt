@@ -8,6 +8,7 @@ use Rattle.definitions.specs.Zones.{zone_at}
 use Rattle.definitions.specs.ZoneFacts.{InZone}
 use Rattle.definitions.specs.NumberPages.{zero_bit}
 use Rattle.frame_sets.specs.FrameSet.{FrameSet}
+use Rattle.definitions.specs.declared.counts.TheConstants.{WORDS_PER_PAGE}
 
 -- how many members lie below a number
 unfoldable pub count_below : List ℕ → ℕ → ℕ
@@ -40,14 +41,14 @@ start set b = (zone_at (runs set) b).0
 
 -- the index of the word with a number's bit; the words of all blocks are numbered in order
 abbrev pub word_of : FrameSet → ℕ → ℕ → ℕ
-word_of set q b = 512 * b + (q - start set b) / 64
+word_of set q b = WORDS_PER_PAGE * b + (q - start set b) / 64
 
 -- The value of word w: its bits are the members that it stands for.
 pub record IsWord (set : FrameSet) (w word : ℕ) : Type 0 where
-  pub within : w / 512 < length (runs set)
+  pub within : w / WORDS_PER_PAGE < length (runs set)
   pub fits : word < 2 ^ 64
   pub bit : (q b : ℕ) → Contains set.members q → InZone (runs set) q b → word_of set q b ≡ w →
       bit_at word ((q - start set b) % 64) ≡ 1
   pub member : (t : ℕ) → t < 64 → bit_at word t ≡ 1 →
-      InZone (runs set) (start set (w / 512) + 64 * (w % 512) + t) (w / 512)
-      × Contains set.members (start set (w / 512) + 64 * (w % 512) + t)
+      InZone (runs set) (start set (w / WORDS_PER_PAGE) + 64 * (w % WORDS_PER_PAGE) + t) (w / WORDS_PER_PAGE)
+      × Contains set.members (start set (w / WORDS_PER_PAGE) + 64 * (w % WORDS_PER_PAGE) + t)

@@ -148,7 +148,7 @@ impl Bitmap {
     }
 
     /// Returns the words of a block: bit k mod 64 of word k / 64 says whether the set has the block's page frame k.
-    pub fn words(&self, block: u32) -> &[u64; 512]
+    pub fn words(&self, block: u32) -> &[u64; WORDS]
         requires { block < length (blocks self.now.zones) }
         ensures { HoldsBits self.now.members (zone_at (blocks self.now.zones) block) result.now }
     {

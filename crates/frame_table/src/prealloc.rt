@@ -12,11 +12,9 @@ ghost use Rattle.frame_table.specs.Tests.{free_by_entry};
 
 use crate::states::{PageFlags, entry};
 use crate::view::View;
+use definitions::SPARE_FRAMES;
 use frame_sets::Bitmap;
 use thiserror::Error;
-
-/// The free page frames that are left for writing the image (PAGES_FOR_IO).
-const PAGES_FOR_IO: u32 = 1024;
 
 /// Too few page frames are free.
 #[derive(Clone, Copy, Debug, PartialEq, Eq, Error)]
@@ -29,11 +27,11 @@ pub struct Short {
 /// Checks that `free` free page frames suffice for an image of `n` pages.
 pub fn enough(free: u32, n: u32) -> Result<(), Short>
     requires { n ≤ 65536 }
-    ensures enough { IsOk result ↔ (n + 1025 ≤ free) }
-    ensures short { IsErr result ↔ (free < n + 1025) }
-    ensures tells { IfErr result (λ short. short ≡ record { free = free; need = n + 1025 }) }
+    ensures enough { IsOk result ↔ (n + SPARE_FRAMES ≤ free) }
+    ensures short { IsErr result ↔ (free < n + SPARE_FRAMES) }
+    ensures tells { IfErr result (λ short. short ≡ record { free = free; need = n + SPARE_FRAMES }) }
 {
-    let need = n + PAGES_FOR_IO + 1;
+    let need = n + SPARE_FRAMES;
     if free < need {
         return Err(Short { free, need });
     }

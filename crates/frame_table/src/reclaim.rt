@@ -9,6 +9,7 @@ ghost use Rattle.definitions.specs.Tables.{HasTable, entry_at, page_flags, with_
 ghost use Rattle.definitions.specs.Tables.{saveable_frames};
 ghost use Rattle.frame_table.specs.Drop.{is_in_runs, may_drop, droppable_frames, dropped_frames};
 ghost use Rattle.frame_table.specs.Tests.{saveable_by_entry};
+ghost use Rattle.definitions.specs.declared.counts.TheConstants.{ENTRIES_PER_FRAME};
 
 use crate::states::{PageFlags, entry, set_entry};
 use crate::view::{View, saveable};
@@ -122,7 +123,7 @@ fn drop_in_zone(
 
 /// Returns whether page frame `p`, a valid one, may be dropped.
 fn may_drop(frames: &Frames, table: u32, keep: &[(u32, u32)], p: u32) -> bool
-    requires { table + p / 1024 < length frames.now }
+    requires { table + p / ENTRIES_PER_FRAME < length frames.now }
     ensures { result ≡ may_drop keep.now table frames.now p }
 {
     let (flags, _) = entry(frames, table, p);

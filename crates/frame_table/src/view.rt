@@ -8,6 +8,7 @@ ghost use Rattle.definitions.specs.Tables.{HasTable, entry_at, is_saveable};
 ghost use Rattle.definitions.specs.Tables.{saveable_frames, free_frames};
 ghost use Rattle.frame_table.specs.Flags.{bits_of};
 ghost use Rattle.frame_table.specs.Tests.{saveable_by_entry, free_by_entry};
+ghost use Rattle.definitions.specs.declared.counts.TheConstants.{ENTRIES_PER_FRAME};
 
 use crate::states::{PageFlags, entry};
 use bitflags::Flags;
@@ -108,7 +109,7 @@ fn free_in_zone(view: &View, zone: (u32, u32)) -> u32
 
 /// Returns whether the entry of page frame `p` is FREE, with no other flag and no owner.
 fn is_free(view: &View, p: u32) -> bool
-    requires { view.now.table + p / 1024 < length view.now.frames.now }
+    requires { view.now.table + p / ENTRIES_PER_FRAME < length view.now.frames.now }
     ensures { result ≡ free_by_entry view.now.table view.now.frames.now p }
 {
     let (flags, owner) = entry(view.frames, view.table, p);

@@ -29,6 +29,7 @@ use Rattle.hib_core.specs.declared.hib.Hib.{Hib}
 use Rattle.hib_core.specs.declared.hib.Ending.{Ending}
 use Rattle.hib_core.specs.declared.hib.Stage.TheVariants as stage
 use Rattle.hib_core.specs.declared.phase.Phase.TheVariants as phase
+use Rattle.definitions.specs.declared.counts.TheConstants.{SPARE_FRAMES, SPARE_SLOTS}
 
 -- The plain machine refuses the hibernation with this reply in every running state that the machine stands for. A
 -- suspend is refused with the same reply.
@@ -64,8 +65,8 @@ pub record IsCounted (machine : Machine) (frames : Memory) (hib : Hib) (counts :
   pub zeros : hib.snapshot.zeros ≡ zero_frames hib.snapshot.format frames (saveable machine.hw frames)
   pub saved : counts.n ≡ length (saveable machine.hw frames)
   pub with_pages : counts.d ≡ length (saveable machine.hw frames) - length hib.snapshot.zeros
-  pub copies : length (saveable machine.hw frames) + 1025 ≤ length (unused machine.hw frames)
-  pub slots : pages_of counts + 1026 ≤ length (free_in frames (slot_table_of machine.hw))
+  pub copies : length (saveable machine.hw frames) + SPARE_FRAMES ≤ length (unused machine.hw frames)
+  pub slots : pages_of counts + SPARE_SLOTS ≤ length (free_in frames (slot_table_of machine.hw))
   pub reserved : AreReserved machine.hw frames
 
 -- the number of steps of a hibernation: one per page and map, and four for the mark (sync, read, write, sync)

@@ -15,19 +15,16 @@ ghost use Rattle.swap_slots.specs.Table.{LiesIn, Matches};
 
 use crate::hib::{Ending, Saving, Stage};
 use crate::{Hib, Job};
+use definitions::SPARE_SLOTS;
 use frame_arena::Frames;
 use frame_table::View;
 use image_format::info::Info;
 use image_write::Writer;
 use machine::{Hardware, Machine, slot_table};
 use page_core::Format;
-use plain_machine::{Held, Reply};
+use plain_machine::{Held, Reply, image_pages, image_writes};
 use snapshot::Counts;
 use swap_slots::FreeRuns;
-
-/// Free slots needed besides one per page of the image: PAGES_FOR_IO (kernel/power/power.h), one more, and the slot of
-/// the first map.
-const SLOTS_LEFT: u32 = 1026;
 
 // The begin of a hibernation (hibernation_snapshot, kernel/power/hibernate.c; enough_swap, kernel/power/swap.c).
 impl Hib {
@@ -147,7 +144,7 @@ impl Hib {
         let slots = slot_table(&machine.hw);
         let (free, need) = (
             slots.free_count(frames, runs),
-            pages_of(counts) + SLOTS_LEFT,
+            image_pages(counts.n, counts.d) + SPARE_SLOTS,
         );
         if free < need {
             return Err(Reply::NoSlots { free, need });
@@ -192,23 +189,13 @@ impl Hib {
     }
 }
 
-/// Returns the number of pages in the image: the info page, the number pages and the data pages.
-fn pages_of(counts: Counts) -> u32
-    requires saved { counts.n ≤ 65536 }
-    requires some { counts.d ≤ counts.n }
-    ensures { result ≡ pages_of counts }
-{
-    counts.d + counts.n.div_ceil(512) + 1
-}
-
 /// Returns the number of steps of a hibernation: one per page and map, and four for the mark (sync, read, write, sync).
 fn steps_of(counts: Counts) -> u32
     requires saved { counts.n ≤ 65536 }
     requires some { counts.d ≤ counts.n }
     ensures { result ≡ steps_of counts }
 {
-    let pages = pages_of(counts);
-    pages + pages / 511 + 1 + 4
+    image_writes(image_pages(counts.n, counts.d)) + 4
 }
 
 /// Returns the fields of the image's info page.
@@ -221,6 +208,6 @@ fn info_of(hw: &Hardware, counts: Counts) -> Info
         ident: *hw.ident(),
         physpages: u64::from(hw.zones().count()),
         image_pages: u64::from(counts.n),
-        pages: u64::from(pages_of(counts)),
+        pages: u64::from(image_pages(counts.n, counts.d)),
     }
 }

@@ -15,13 +15,14 @@ use Rattle.image_check.specs.declared.finding.Place.{Place}
 use Rattle.image_check.specs.Info.{counts_in, info_findings}
 use Rattle.image_check.specs.Numbers.{data_words, number_findings}
 use Rattle.image_check.specs.Told.{list_of}
+use Rattle.definitions.specs.declared.counts.TheConstants.{MAP_PAGE_ENTRIES}
 
 -- the position in the image of the page that the next entry names: 0 is the info page
 abbrev pub position_of : List Name → ℕ
-position_of h = 511 * (maps_in h - 1) + (511 - left_in h)
+position_of h = MAP_PAGE_ENTRIES * (maps_in h - 1) + (MAP_PAGE_ENTRIES - left_in h)
 
 abbrev pub place_of : List Name → Place
-place_of h = record { map = maps_in h; at = newest_map h; entry = 511 - left_in h }
+place_of h = record { map = maps_in h; at = newest_map h; entry = MAP_PAGE_ENTRIES - left_in h }
 
 abbrev pub counts_seen : Result (List ℕ) BlockFault → Option Counts
 counts_seen (Ok page) = Some (counts_in page)
@@ -34,7 +35,7 @@ counts_of (map_at b answer ∷ h) = counts_of h
 counts_of (page_at b answer ∷ h) = if position_of h == 0 then counts_seen answer else counts_of h
 
 abbrev pub last_word : Result (List ℕ) BlockFault → Option ℕ
-last_word (Ok page) = Some (word page 511)
+last_word (Ok page) = Some (word page MAP_PAGE_ENTRIES)
 last_word (Err why) = None
 
 -- the last word of the previous page, unless that is the info page
@@ -113,12 +114,13 @@ data_findings format counts position counted (Ok page) = list_of (data_fault for
 -- the chain has ended too early
 abbrev pub ends_fault : Option Counts → ℕ → Option Finding
 ends_fault None maps = None
-ends_fault (Some c) maps = if nat_lt (511 * maps) c.pages then Some (finding.Ends maps c.pages) else None
+ends_fault (Some c) maps = if nat_lt (MAP_PAGE_ENTRIES * maps) c.pages then Some (finding.Ends maps c.pages) else None
 
 -- A writer makes one map for each full 511 pages, and one more (swap_write_page).
 abbrev pub after_fault : Option Counts → (map b : ℕ) → Option Finding
 after_fault None map b = None
-after_fault (Some c) map b = if nat_lt (c.pages / 511 + 1) map then Some (finding.AfterMaps map b) else None
+after_fault (Some c) map b =
+    if nat_lt (c.pages / MAP_PAGE_ENTRIES + 1) map then Some (finding.AfterMaps map b) else None
 
 -- What is wrong with the block that is named as a map. The last map names no block.
 abbrev pub map_fault : {A : Type 0} → Option Counts → (map b : ℕ) → Result A BlockFault → Option Finding

@@ -9,11 +9,13 @@ use Rattle.definitions.specs.NumberPages.{end_value, number_of_word, zero_bit}
 use Rattle.image_check.specs.declared.finding.Finding.{Finding}
 use Rattle.image_check.specs.declared.finding.Finding.TheVariants as finding
 use Rattle.image_check.specs.Told.{each_below}
+use Rattle.definitions.specs.declared.counts.TheConstants.{WORDS_PER_PAGE}
 
 -- how many words of a number page are numbers with a data page (bit 63 isn't set), in an image with n numbers
 abbrev pub data_words : (n page : ℕ) → List ℕ → ℕ
 data_words n page bytes =
-    length (filter (λ i. nat_lt (512 * (page - 1) + i) n && nat_lt (word bytes i) zero_bit) (range_with_len 0 512))
+    length (filter (λ i. nat_lt (WORDS_PER_PAGE * (page - 1) + i) n
+    && nat_lt (word bytes i) zero_bit) (range_with_len 0 WORDS_PER_PAGE))
 
 -- the page frame number of a word, in which bit 63 marks a page of zeros that has no data page
 abbrev pub frame_of : Format → ℕ → ℕ
@@ -39,8 +41,8 @@ end_fault page i w = if w == end_value then None else Some (finding.End page i w
 -- Word i of a number page of an image with n numbers: the first n words are the numbers, and the end value follows.
 abbrev pub word_fault : Format → (n page i w : ℕ) → Option ℕ → Option Finding
 word_fault format n page i w before =
-    if nat_lt (512 * (page - 1) + i) n then number_fault format page i w before
-    else if 512 * (page - 1) + i == n then end_fault page i w
+    if nat_lt (WORDS_PER_PAGE * (page - 1) + i) n then number_fault format page i w before
+    else if WORDS_PER_PAGE * (page - 1) + i == n then end_fault page i w
     else None
 
 -- the word before word i of a page
@@ -50,4 +52,4 @@ word_before previous bytes i = if i == 0 then previous else Some (word bytes (i 
 -- all that is wrong with a number page, where `previous` is the last word of the one before
 abbrev pub number_findings : Format → (n page : ℕ) → Option ℕ → List ℕ → List Finding
 number_findings format n page previous bytes =
-    each_below (λ i. word_fault format n page i (word bytes i) (word_before previous bytes i)) 512
+    each_below (λ i. word_fault format n page i (word bytes i) (word_before previous bytes i)) WORDS_PER_PAGE

@@ -16,11 +16,12 @@ use crate::numbers::{NumberPage, check_numbers, data_words};
 use crate::progress::Progress;
 use crate::report::tell_any;
 use crate::{Counts, Finding, Place, Report};
+use definitions::{MAP_PAGE_ENTRIES, number_page_count};
 use image_walk::{BlockFault, Visit};
 use page_core::{Format, Page};
 
 /// How many entries a map page has (MAP_PAGE_ENTRIES).
-const ENTRIES: u64 = 511;
+const ENTRIES: u64 = MAP_PAGE_ENTRIES as u64;
 
 /// Reports what is wrong with a name that follows those that led to `progress`, and with the page that was read.
 pub fn check_name<R: Report>(
@@ -189,7 +190,7 @@ fn check_listed<R: Report>(
     ensures { Tells (listed_findings format (Some counts) position previous page.now)
         (R.told report.old) (R.told report.new) }
 {
-    if position <= counts.image_pages.div_ceil(512) {
+    if position <= number_page_count(counts.image_pages) {
         let of = NumberPage {
             format,
             numbers: counts.image_pages,
@@ -221,7 +222,11 @@ fn after_entry(
             counted,
         };
     }
-    let previous = if read { Some(page.word(511)) } else { None };
+    let previous = if read {
+        Some(page.word(MAP_PAGE_ENTRIES as usize))
+    } else {
+        None
+    };
     Progress {
         counts: progress.counts,
         previous,
@@ -242,7 +247,7 @@ fn data_after(
     let Some(counts) = progress.counts else {
         return progress.counted;
     };
-    if counts.image_pages.div_ceil(512) < position {
+    if number_page_count(counts.image_pages) < position {
         return progress.counted;
     }
     let seen = data_seen(counts.image_pages, position, answer, page);
@@ -290,7 +295,7 @@ fn data_fault(
 fn zeros_fault(counts: Counts, position: u64, counted: u64) -> Option<Finding>
     ensures { result ≡ data_fault SkipZeros (Some counts) position (Some counted) }
 {
-    let number_pages = counts.image_pages.div_ceil(512);
+    let number_pages = number_page_count(counts.image_pages);
     if position == number_pages && !follows(counts.pages, counted, number_pages) {
         Some(Finding::DataPages {
             counted,

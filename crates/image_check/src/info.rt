@@ -9,6 +9,7 @@ ghost use Rattle.image_check.specs.Told.{Tells, each_below};
 
 use crate::report::tell_any;
 use crate::{Counts, Finding, Report};
+use definitions::number_page_count;
 use page_core::{Format, Page};
 
 /// The number of bytes of a name, and the number of names (`__NEW_UTS_LEN` + 1, `struct new_utsname`).
@@ -135,7 +136,7 @@ fn counts_fault(format: Format, counts: &Counts) -> Option<Finding>
 fn follows(format: Format, counts: &Counts) -> bool
     ensures { result ≡ follows format counts.now }
 {
-    let least = counts.image_pages.div_ceil(512) + 1;
+    let least = number_page_count(counts.image_pages) + 1;
     let most = counts.image_pages.saturating_add(least);
     match format {
         Format::Plain => counts.pages >= least && counts.pages - least == counts.image_pages,

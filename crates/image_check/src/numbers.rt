@@ -7,10 +7,8 @@ ghost use Rattle.image_check.specs.Told.{Tells};
 
 use crate::report::tell_any;
 use crate::{Finding, Report};
+use definitions::WORDS_PER_PAGE;
 use page_core::{Format, Page};
-
-/// The number of words of a page.
-const WORDS: u32 = 512;
 
 /// What follows the last number (BM_END_OF_MAP).
 const END: u64 = u64::MAX;
@@ -42,7 +40,7 @@ pub(crate) fn check_numbers<R: Report>(
     ensures { Tells (number_findings of.format of.numbers of.page previous bytes.now)
         (R.told report.old) (R.told report.new) }
 {
-    for i in 0..WORDS {
+    for i in 0..WORDS_PER_PAGE {
         tell_any(
             report,
             word_fault(
@@ -57,7 +55,7 @@ pub(crate) fn check_numbers<R: Report>(
 
 /// Returns the word before word `i` of a page.
 fn word_before(previous: Option<u64>, bytes: &Page, i: u32) -> Option<u64>
-    requires { i < 512 }
+    requires { i < WORDS_PER_PAGE }
     ensures { result ≡ word_before previous bytes.now i }
 {
     if i == 0 {
@@ -69,10 +67,10 @@ fn word_before(previous: Option<u64>, bytes: &Page, i: u32) -> Option<u64>
 
 fn word_fault(of: NumberPage, i: u32, word: u64, before: Option<u64>) -> Option<Finding>
     requires page { of.page < 2 ^ 42 }
-    requires word { i < 512 }
+    requires word { i < WORDS_PER_PAGE }
     ensures { result ≡ word_fault of.format of.numbers of.page i word before }
 {
-    let index = 512 * of.page.saturating_sub(1) + u64::from(i);
+    let index = u64::from(WORDS_PER_PAGE) * of.page.saturating_sub(1) + u64::from(i);
     if index < of.numbers {
         number_fault(of, i, word, before)
     } else if index == of.numbers && word != END {
@@ -116,8 +114,8 @@ pub(crate) fn data_words(numbers: u64, page: u64, bytes: &Page) -> u64
     requires { page < 2 ^ 42 }
     ensures { result ≡ data_words numbers page bytes.now }
 {
-    let first = 512 * page.saturating_sub(1);
-    let words = 0..u64::from(WORDS);
+    let first = u64::from(WORDS_PER_PAGE) * page.saturating_sub(1);
+    let words = 0..u64::from(WORDS_PER_PAGE);
     words
         .filter(|&i| first + i < numbers && bytes.word(i as usize) < ZERO_BIT)
         .count() as u64

@@ -8,6 +8,7 @@ ghost use Rattle.definitions.specs.InfoPage.{info_page, info_of, IsInfo, names_o
 ghost use Rattle.definitions.specs.declared.info.Field.{Field};
 ghost use Rattle.image_format.specs.Counts.{are_bad_counts};
 
+use definitions::number_page_count;
 pub use definitions::{Field, Ident, Info};
 use page_core::{Format, Page};
 use thiserror::Error;
@@ -167,7 +168,7 @@ pub fn counts(info: &Info, valid: u32, format: Format) -> Result<(), BadCounts>
     if saved == 0 || saved > u64::from(valid) {
         return Err(bad);
     }
-    let least = saved.div_ceil(512) + 1;
+    let least = number_page_count(saved) + 1;
     let fits = match format {
         Format::Plain => pages == saved + least,
         Format::SkipZeros => least <= pages && pages <= saved + least,

@@ -18,6 +18,7 @@ use Rattle.image_walk.specs.Names.{fault_of}
 use Rattle.image_walk.specs.declared.limits.Limits.{Limits}
 use Rattle.image_check.specs.Checked.{Finds}
 use Rattle.image_check.specs.Header.{limits_of}
+use Rattle.definitions.specs.declared.counts.TheConstants.{MAP_PAGE_ENTRIES}
 
 -- a block that an image may name first: one of the file and of the area, and neither a bad page nor the header's
 abbrev pub MayName : Limits → ℕ → Type 0
@@ -30,7 +31,7 @@ limits_in v header = limits_of (blocks_of v) header (area_kind (taken_back (bloc
 -- the blocks that an image names: those of its maps, and those of its pages
 abbrev pub IsNamed : Hardware → DiskImage → ℕ → Type 0
 IsNamed h v b =
-    ((j : ℕ) × (511 * j < (info_in h v).pages) × (map_block v (first_map h v) j ≡ b))
+    ((j : ℕ) × (MAP_PAGE_ENTRIES * j < (info_in h v).pages) × (map_block v (first_map h v) j ≡ b))
     ⊎ ((k : ℕ) × (k < (info_in h v).pages) × (entry_block v (first_map h v) k ≡ b))
 
 -- a block is that of a slot from 1 to the last page of the area that the header block describes

@@ -4,16 +4,14 @@ ghost use Rattle.definitions.specs.Zones.{numbers, top};
 ghost use Rattle.plain_machine.specs.Machine.{table_len};
 ghost use Rattle.image_machine.specs.Rows.{is_clear, is_unsaved, lie_apart, lowest_row};
 
+use definitions::ENTRIES_PER_FRAME;
 use frame_sets::{Bitmap, Zones};
-
-/// The number of entries of 4 bytes in a page frame.
-const ENTRIES: u32 = 1024;
 
 /// Returns how many page frames a table with `entries` entries takes.
 pub(crate) fn table_len(entries: u32) -> u32
     ensures { result ≡ table_len entries }
 {
-    entries.div_ceil(ENTRIES)
+    entries.div_ceil(ENTRIES_PER_FRAME)
 }
 
 /// Returns the first page frame of the lowest row of `len` valid page frames, none of which was saved or lies in the

@@ -17,6 +17,7 @@ use Rattle.image_pages.specs.Found.{page_at}
 use Rattle.image_pages.specs.Saved.{has_page}
 use Rattle.image_pages.specs.declared.saved.finding.Search.{Search}
 use Rattle.image_pages.specs.declared.saved.finding.Search.TheVariants as search
+use Rattle.definitions.specs.declared.counts.TheConstants.{WORDS_PER_PAGE}
 
 -- the image has more pages than these
 abbrev pub HasMore : List (List ℕ) → Type 0
@@ -55,7 +56,7 @@ pub record HasInfo (content : Option Content) (blocks header : ℕ) (p : Pages) 
 
 -- word i in these number pages, and how many of those before it have a data page
 abbrev pub listed : List (List ℕ) → ℕ → ℕ
-listed pages i = word (page_at pages (i / 512)) (i % 512)
+listed pages i = word (page_at pages (i / WORDS_PER_PAGE)) (i % WORDS_PER_PAGE)
 
 abbrev pub listed_data : Format → List (List ℕ) → ℕ → ℕ
 listed_data format pages i = count_by (λ j. has_page format (listed pages j)) (range_with_len 0 i)
@@ -68,7 +69,7 @@ data_words format page i = count_by (λ j. has_page format (word page j)) (range
 pub record IsListed (format : Format) (pages : List (List ℕ)) (n frame : ℕ) : Type 0 where
   pub index : ℕ
   pub inside : index < n
-  pub newest : length pages ≡ index / 512 + 1
+  pub newest : length pages ≡ index / WORDS_PER_PAGE + 1
   pub number : frame_of format (listed pages index) ≡ frame
 
 -- the page frame has no data page

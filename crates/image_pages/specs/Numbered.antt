@@ -8,6 +8,7 @@ use Rattle.image_pages.specs.Stands.{Stands}
 use Rattle.image_pages.specs.Ahead.{listed_data}
 use Rattle.image_pages.specs.Found.{page_at}
 use Rattle.image_pages.specs.declared.frames.numbers.Numbers.{Numbers}
+use Rattle.definitions.specs.declared.counts.TheConstants.{WORDS_PER_PAGE}
 
 -- Nothing is wrong so far with the image that has this header block, and these are its first numbers: those of the
 -- number pages that were read.
@@ -19,7 +20,7 @@ pub record HasNumbered (content : Option Content) (blocks header : ℕ) (n : Num
   pub small : n.count ≤ last_count
   pub few : n.given ≤ n.count
   pub listed_size : length listed ≡ meta_of n.given
-  pub newest : 0 < n.given % 512 → n.listed ≡ page_at listed (n.given / 512)
+  pub newest : 0 < n.given % WORDS_PER_PAGE → n.listed ≡ page_at listed (n.given / WORDS_PER_PAGE)
   pub size : length given ≡ n.given
   pub numbers : (i : ℕ) → i < n.given → slice_index_or given i 0 ≡ frame_of n.pages.format (word_at listed i)
 

@@ -9,6 +9,7 @@ use Rattle.definitions.specs.Bytes.{word, zero_page}
 use Rattle.definitions.specs.NumberPages.{meta_of, zero_bit}
 use Rattle.image_check.specs.Info.{counts_in}
 use Rattle.image_check.specs.Numbers.{frame_of}
+use Rattle.definitions.specs.declared.counts.TheConstants.{WORDS_PER_PAGE}
 
 -- how many page frames were saved
 abbrev pub count_in : (ℕ → List ℕ) → ℕ
@@ -16,7 +17,7 @@ count_in at = (counts_in (at 0)).image_pages
 
 -- the word of saved page frame i, from 0, and the number in it
 abbrev pub word_in : (ℕ → List ℕ) → ℕ → ℕ
-word_in at i = word (at (1 + i / 512)) (i % 512)
+word_in at i = word (at (1 + i / WORDS_PER_PAGE)) (i % WORDS_PER_PAGE)
 
 abbrev pub number_in : Format → (ℕ → List ℕ) → ℕ → ℕ
 number_in format at i = frame_of format (word_in at i)
@@ -42,7 +43,7 @@ page_in format at i = if has_data format at i then at (place_in format at i) els
 
 -- the last page needed for its contents: its data page, or, if it has none, the page of its number
 abbrev pub told_at : Format → (ℕ → List ℕ) → ℕ → ℕ
-told_at format at i = if has_data format at i then place_in format at i else 1 + i / 512
+told_at format at i = if has_data format at i then place_in format at i else 1 + i / WORDS_PER_PAGE
 
 -- a page is the saved page of a page frame
 pub record IsSaved (format : Format) (at : ℕ → List ℕ) (frame : ℕ) (page : List ℕ) : Type 0 where

@@ -11,6 +11,7 @@ use Rattle.image_pages.specs.declared.pages.Pages.{Pages}
 use Rattle.image_pages.specs.Found.{page_at}
 use Rattle.image_pages.specs.declared.frames.frames.Next.{Next}
 use Rattle.image_pages.specs.declared.frames.frames.Next.TheVariants.{Frame, End, Refused}
+use Rattle.definitions.specs.declared.counts.TheConstants.{WORDS_PER_PAGE}
 
 -- After `given` numbers these number pages were read, and the newest holds the number given last. There are more
 -- numbers.
@@ -18,7 +19,7 @@ pub record IsAtNumber (content : Option Content) (blocks header : ℕ) (p : Page
     (pages : List (List ℕ)) (given : ℕ) (page : List ℕ) : Type 0 where
   pub stands : Stands content blocks header p (info ∷ pages)
   pub size : length pages ≡ meta_of given
-  pub newest : 0 < given % 512 → page ≡ page_at pages (given / 512)
+  pub newest : 0 < given % WORDS_PER_PAGE → page ≡ page_at pages (given / WORDS_PER_PAGE)
   pub count : given < (counts_in info).image_pages
   pub room : meta_of (counts_in info).image_pages + 1 ≤ (counts_in info).pages
 
@@ -28,7 +29,7 @@ pub record IsNumberRead (content : Option Content) (blocks header : ℕ) (q : Pa
   pub all : List (List ℕ)
   pub stands : Stands content blocks header q (info ∷ all)
   pub size : length all ≡ meta_of (given + 1)
-  pub newest : page ≡ page_at all (given / 512)
+  pub newest : page ≡ page_at all (given / WORDS_PER_PAGE)
   pub same : (k : ℕ) → k < length pages → page_at all k ≡ page_at pages k
 
 abbrev pub Turns : Option Content → (blocks header before now : ℕ) → (told then : Told) → List ℕ →

@@ -15,6 +15,7 @@ use Rattle.image_read.specs.Reading.{Reading}
 use Rattle.image_read.specs.declared.cause.Cause.{Cause}
 use Rattle.image_read.specs.declared.cause.Cause.TheVariants.{NoChain, BadBlock, ChainEnds, Mismatch, MemorySize}
 use Rattle.image_read.specs.declared.cause.Cause.TheVariants.{BadCounts}
+use Rattle.definitions.specs.declared.counts.TheConstants.{BLOCKS_PER_MAP}
 
 -- what is wrong with a block of a chain
 abbrev pub block_fault : Reading → ℕ → Option Cause
@@ -27,13 +28,13 @@ first_fault extents blocks last first =
 
 -- the block that the map names for place number t
 abbrev pub named_block : Reading → ℕ → ℕ
-named_block r t = if t % 512 == 0 then map_link r.map.page else map_entry r.map.page (t % 512 - 1)
+named_block r t = if t % BLOCKS_PER_MAP == 0 then map_link r.map.page else map_entry r.map.page (t % BLOCKS_PER_MAP - 1)
 
 abbrev pub named_fault : Reading → ℕ → Option Cause
 named_fault r t =
-    if t % 512 == 0
+    if t % BLOCKS_PER_MAP == 0
     then (if map_link r.map.page == 0 then Some (ChainEnds r.map.map) else block_fault r (map_link r.map.page))
-    else block_fault r (map_entry r.map.page (t % 512 - 1))
+    else block_fault r (map_entry r.map.page (t % BLOCKS_PER_MAP - 1))
 
 -- what is wrong with what a map page says: a block, or that there is none
 abbrev pub chain_fault : Reading → Result ℕ ChainFault → Option Cause

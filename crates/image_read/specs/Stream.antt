@@ -15,6 +15,7 @@ use Rattle.plain_machine.specs.Trace.{cause_with}
 use Rattle.plain_machine.specs.Trace.{is_marked_by, Place, map_at, page_at, place, place_count}
 use Rattle.plain_machine.specs.declared.event.IdentCheck.{IdentCheck}
 use Rattle.image_read.specs.Reading.{Reading}
+use Rattle.definitions.specs.declared.counts.TheConstants.{BLOCKS_PER_MAP, WORDS_PER_PAGE}
 
 -- the block of a place
 abbrev pub place_block : Hardware → disk.DiskImage → Place → ℕ
@@ -23,7 +24,7 @@ place_block h v (page_at k) = entry_block v (first_map h v) k
 
 -- how many of the first t places are pages of the stream
 abbrev pub pages_read : ℕ → ℕ
-pages_read t = t - (t + 511) / 512
+pages_read t = t - (t + 511) / BLOCKS_PER_MAP
 
 -- After k pages of the stream: how many pages it has, as far as is known, and how many numbers were read.
 abbrev pub known_pages : Hardware → disk.DiskImage → ℕ → ℕ
@@ -35,7 +36,7 @@ known_saved h v zero = 0
 known_saved h v (suc k) = (info_in h v).image_pages
 
 abbrev pub numbers_read : Hardware → disk.DiskImage → ℕ → ℕ
-numbers_read h v k = min (known_saved h v k) (512 * (k - 1))
+numbers_read h v k = min (known_saved h v k) (WORDS_PER_PAGE * (k - 1))
 
 -- the first m page frames that the numbers name, and those of them that have no data page
 unfoldable pub frames_in : Hardware → disk.DiskImage → ℕ → List ℕ
@@ -105,8 +106,11 @@ pub record HasReadPlaces (h : Hardware) (v : disk.DiskImage) (check : IdentCheck
   pub within : t ≤ place_count (known_pages h v (pages_read t))
   pub block : t < place_count (known_pages h v (pages_read t)) → r.block ≡ place_block h v (place t)
   pub apart : t < place_count (known_pages h v (pages_read t)) → is_at_fault h v r.block ≡ false
-  pub map : (t % 512 ≡ 0 → ⊥) →
-      r.map ≡ record { page = disk.block v (map_block v (first_map h v) (t / 512)); map = t / 512 + 1 }
+  pub map : (t % BLOCKS_PER_MAP ≡ 0 → ⊥) →
+      r.map ≡ record {
+        page = disk.block v (map_block v (first_map h v) (t / BLOCKS_PER_MAP));
+        map = t / BLOCKS_PER_MAP + 1;
+      }
   pub numbers : r.numbers ≡ unpacked_at h v (pages_read t)
   pub listed : r.listed ≡ told h v (pages_read t)
   pub frame : r.frame ≡ frame_after (data_frames h v) (pages_read t - 1 - meta_in h v)

@@ -14,6 +14,7 @@ use Rattle.image_read.specs.Causes.{cause_of_numbers}
 use Rattle.image_read.specs.Reading.{Reading}
 use Rattle.image_read.specs.Faults.{info_fault, pages_fault, named_fault, named_block}
 use Rattle.image_read.specs.declared.cause.Cause.{Cause}
+use Rattle.definitions.specs.declared.counts.TheConstants.{BLOCKS_PER_MAP}
 
 -- The info page.
 
@@ -71,14 +72,14 @@ after_frame from (Some p) = p + 1
 pub record Takes (own : Option Ident) (zones : List (ℕ
     × ℕ)) (page : List ℕ) (r : Reading) (origs zeros : List ℕ) (result : Result (Option ℕ) Cause) (new : Reading)
     (new_origs new_zeros : List ℕ) : Type 0 where
-  pub map : r.steps % 512 ≡ 0 → (result ≡ Ok None)
-      × (new ≡ record r { map = record { page = page; map = r.steps / 512 + 1 } }) × (new_origs ≡ origs)
+  pub map : r.steps % BLOCKS_PER_MAP ≡ 0 → (result ≡ Ok None)
+      × (new ≡ record r { map = record { page = page; map = r.steps / BLOCKS_PER_MAP + 1 } }) × (new_origs ≡ origs)
       × (new_zeros ≡ zeros)
   pub info : r.steps ≡ 1 → TakesInfo own (length (numbers zones)) r (info_of page) result new × (new_origs ≡ origs)
       × (new_zeros ≡ zeros)
-  pub numbers : (r.steps % 512 ≡ 0 → ⊥) → (r.steps ≡ 1 → ⊥) → r.listed ≡ None →
+  pub numbers : (r.steps % BLOCKS_PER_MAP ≡ 0 → ⊥) → (r.steps ≡ 1 → ⊥) → r.listed ≡ None →
       TakesNumbers zones r page origs zeros result new new_origs new_zeros
-  pub saved_page : (n : ℕ) → (r.steps % 512 ≡ 0 → ⊥) → (r.steps ≡ 1 → ⊥) → r.listed ≡ Some n →
+  pub saved_page : (n : ℕ) → (r.steps % BLOCKS_PER_MAP ≡ 0 → ⊥) → (r.steps ≡ 1 → ⊥) → r.listed ≡ Some n →
       (result ≡ Ok (first_from (with_data origs zeros) r.frame))
       × (new ≡ record r { frame = after_frame r.frame (first_from (with_data origs zeros) r.frame) })
       × (new_origs ≡ origs) × (new_zeros ≡ zeros)

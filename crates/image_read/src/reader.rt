@@ -12,23 +12,16 @@ ghost use Rattle.sector_disk.specs.Called.{Called, AtMostOneCall};
 
 use crate::area::Area;
 use crate::cause::Cause;
+use definitions::{BLOCKS_PER_MAP, WORDS_PER_PAGE};
 use frame_sets::packing::Unpack;
 use frame_sets::{Bitmap, Zones};
 use image_format::info::{Ident, Info, check, counts, decode};
 use image_format::{ChainFault, MapReader};
 use page_core::{Format, Page};
+use plain_machine::image_reads;
 use sector_disk::Disk;
 use std::marker::Model;
 use swap_slots::FileMap;
-
-/// Blocks per map: the map page and its 511 pages.
-const MAP_PLACES: u32 = 512;
-
-/// Entries per map.
-const MAP_ENTRIES: u32 = 511;
-
-/// Numbers per number page.
-const PAGE_NUMBERS: u32 = 512;
 
 /// The machine that an image must be of, by its zones and, if that is compared, by its identity.
 #[derive(Clone, Copy)]
@@ -208,7 +201,7 @@ impl Reader {
     fn places(&self) -> u32
         ensures { result ≡ place_count self.now.pages }
     {
-        self.pages + self.pages.div_ceil(MAP_ENTRIES)
+        image_reads(self.pages)
     }
 
     /// Accepts the block just read and finds the next. Returns its page frame, if it is a saved page.
@@ -254,8 +247,8 @@ impl Reader {
         ensures saved { IfOk result (λ frame. self.new.saved ≤ 65536) }
         ensures stays { StaysOver self.old self.new origs.old origs.new zeros.old zeros.new }
     {
-        if self.steps % MAP_PLACES == 0 {
-            self.map = MapReader::of(page, self.steps / MAP_PLACES + 1);
+        if self.steps % BLOCKS_PER_MAP == 0 {
+            self.map = MapReader::of(page, self.steps / BLOCKS_PER_MAP + 1);
             return Ok(None);
         }
         if self.steps == 1 {
@@ -325,7 +318,7 @@ impl Reader {
         ensures fault { IfErr result (λ cause. pages_fault self.now.saved self.now.pages zeros ≡ Some cause) }
     {
         let data = self.saved.saturating_sub(zeros);
-        if self.pages != data + self.saved.div_ceil(PAGE_NUMBERS) + 1 {
+        if self.pages != data + self.saved.div_ceil(WORDS_PER_PAGE) + 1 {
             return Err(Cause::BadCounts {
                 image_pages: u64::from(self.saved),
                 pages: u64::from(self.pages),
@@ -367,7 +360,7 @@ impl Reader {
         ensures block { IfOk result (λ block. block ≡ named_block self.now self.now.steps) }
         ensures below { IfOk result (λ block. block < self.now.blocks) }
     {
-        let place = self.steps % MAP_PLACES;
+        let place = self.steps % BLOCKS_PER_MAP;
         if place == 0 {
             return self.test(self.map.next(u32::MAX));
         }

@@ -7,6 +7,7 @@ use Rattle.image_show.specs.Told.{block_run}
 use Rattle.image_show.specs.declared.facts.fact.Fact.{Fact}
 use Rattle.image_show.specs.declared.facts.part.Part.{Part}
 use Rattle.image_show.specs.declared.facts.part.Part.TheVariants as part
+use Rattle.definitions.specs.declared.counts.TheConstants.{WORDS_PER_PAGE}
 
 -- what the info page says
 abbrev pub facts_of_info : Part → List ℕ → List Fact
@@ -35,9 +36,9 @@ rest_of (Some n) = n
 abbrev pub numbers_in_part : Option ℕ → Part → ℕ
 numbers_in_part left (part.Map maps b) = 0
 numbers_in_part left (part.Info b) = 0
-numbers_in_part left (part.Page b) = min (rest_of left) 512
+numbers_in_part left (part.Page b) = min (rest_of left) WORDS_PER_PAGE
 
 abbrev pub left_after : Option ℕ → Part → List ℕ → Option ℕ
 left_after left (part.Map maps b) page = left
 left_after left (part.Info b) page = Some (number_at 8 page 416)
-left_after left (part.Page b) page = Some (rest_of left - 512)
+left_after left (part.Page b) page = Some (rest_of left - WORDS_PER_PAGE)

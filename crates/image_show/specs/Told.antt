@@ -12,6 +12,7 @@ use Rattle.image_check.specs.Numbers.{frame_of}
 use Rattle.image_show.specs.InfoFacts.{info_facts}
 use Rattle.image_show.specs.declared.facts.fact.Fact.{Fact}
 use Rattle.image_show.specs.declared.facts.fact.Fact.TheVariants as fact
+use Rattle.definitions.specs.declared.counts.TheConstants.{WORDS_PER_PAGE}
 
 -- the pages that entries name, and all blocks, in the order of reading
 abbrev pub pages_in : List Name → List (List ℕ)
@@ -58,7 +59,7 @@ facts_of_first (info ∷ rest) = info_facts info
 
 -- the words of a page
 unfoldable pub words_of : List ℕ → List ℕ
-words_of page = map (word page) (range_with_len 0 512)
+words_of page = map (word page) (range_with_len 0 WORDS_PER_PAGE)
 
 -- The page frame numbers are the first words of the pages after the info page, as many as page frames were saved by the
 -- info page.

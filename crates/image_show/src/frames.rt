@@ -13,11 +13,12 @@ ghost use Rattle.image_show.specs.Shown.{ShowsFrames};
 
 use crate::printing::print_any;
 use crate::{Fact, Form, Part, Reading, Runs};
+use definitions::WORDS_PER_PAGE;
 use page_core::{Failed, Format, Page};
 use sector_disk::Disk;
 
 /// The number of words of a page.
-const WORDS: u64 = 512;
+const WORDS: u64 = WORDS_PER_PAGE as u64;
 
 /// The index of the info page's word that says how many page frames were saved (`image_pages`, `struct swsusp_info`,
 /// kernel/power/power.h).
@@ -89,7 +90,7 @@ fn next_part<D: Disk>(
 /// Returns how many numbers a part has.
 fn numbers_in_part(left: Option<u64>, part: Part) -> u64
     ensures count { result ≡ numbers_in_part left part }
-    ensures few { result ≤ 512 }
+    ensures few { result ≤ WORDS_PER_PAGE }
     ensures enough { result ≤ rest_of left }
 {
     match part {
@@ -119,7 +120,7 @@ fn print_numbers<F: Form>(
     page: &Page,
     count: u64,
 ) -> Result<(), Failed>
-    requires few { count ≤ 512 }
+    requires few { count ≤ WORDS_PER_PAGE }
     requires room { count_of runs.old.last + count < 2 ^ 64 }
     ensures whole { OnOk result ((more : List (ℕ × ℕ))
         × (RunsOn runs.old.last runs.new.last (map (frame_of format) (take count (words_of page.now))) more

@@ -10,6 +10,7 @@ use Rattle.definitions.specs.NumberPages.{meta_of, number_of_word, page_of_words
 use Rattle.image_check.specs.Info.{counts_in}
 use Rattle.image_pages.specs.Found.{page_at}
 use Rattle.image_pages.specs.Saved.{count_in, page_in}
+use Rattle.definitions.specs.declared.counts.TheConstants.{WORDS_PER_PAGE}
 
 -- how many pages the stream of n page frames has
 abbrev pub plain_pages : ℕ → ℕ
@@ -26,11 +27,11 @@ abbrev pub plain_word : ℕ → List ℕ → ℕ → ℕ
 plain_word count page j = if nat_lt j count then number_of_word (word page j) else word page j
 
 unfoldable pub plain_numbers : ℕ → List ℕ → List ℕ
-plain_numbers count page = page_of_words (map (plain_word count page) (range_with_len 0 512))
+plain_numbers count page = page_of_words (map (plain_word count page) (range_with_len 0 WORDS_PER_PAGE))
 
 -- the first k number pages of n numbers
 abbrev pub plain_lists : ℕ → (ℕ → List ℕ) → ℕ → List (List ℕ)
-plain_lists n at k = map (λ j. plain_numbers (n - 512 * j) (at (1 + j))) (range_with_len 0 k)
+plain_lists n at k = map (λ j. plain_numbers (n - WORDS_PER_PAGE * j) (at (1 + j))) (range_with_len 0 k)
 
 abbrev pub plain_stream : Format → (ℕ → List ℕ) → List (List ℕ)
 plain_stream Plain at = map at (range_with_len 0 (counts_in (at 0)).pages)

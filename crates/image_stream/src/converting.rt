@@ -13,6 +13,7 @@ ghost use Rattle.image_stream.specs.Streamed.{IsFront, IsStopped, IsStreamed};
 use crate::plain::{NUMBERS, plain_info, plain_numbers};
 use crate::streaming::{Stop, Streamed};
 use byte_streams::{Sink, put_all};
+use definitions::number_page_count;
 use image_check::Report;
 use image_pages::frames::{Frames, Next, Numbers};
 use image_pages::{Pages, read_page};
@@ -119,7 +120,7 @@ fn write_numbers<D: Disk, S: Sink, R: Report>(
     ensures orders { D.orders disk.new ≡ D.orders disk.old }
     ensures blocks { D.block_count disk.new ≡ D.block_count disk.old }
 {
-    let number_pages = count.div_ceil(NUMBERS);
+    let number_pages = number_page_count(count);
     let mut page = Page::zero();
     for k in 0..number_pages {
         if !read_page(pages, disk, report, &mut page) {

@@ -3,11 +3,12 @@ ghost use Rattle.std.specs.Prelude.{◌≡◌, ◌<◌};
 ghost use Rattle.image_check.specs.Info.{counts_in};
 ghost use Rattle.image_stream.specs.Plain.{plain_info, plain_numbers, plain_word};
 
+use definitions::{WORDS_PER_PAGE, number_page_count};
 use image_pages::frame_of;
 use page_core::{Format, Page};
 
 /// How many numbers a page of page frame numbers has.
-pub(crate) const NUMBERS: u64 = 512;
+pub(crate) const NUMBERS: u64 = WORDS_PER_PAGE as u64;
 
 /// The indices of the words of an info page that count its pages and their bytes (struct swsusp_info,
 /// kernel/power/power.h).
@@ -21,7 +22,7 @@ pub(crate) fn plain_info(info: &Page, numbers: u64) -> Page
     ensures { result ≡ plain_info info.now }
 {
     let pages = numbers
-        .wrapping_add(numbers.div_ceil(NUMBERS))
+        .wrapping_add(number_page_count(numbers))
         .wrapping_add(1);
     let mut plain = Page::from_bytes(info.as_bytes());
     plain.set_word(PAGES, pages);
@@ -42,7 +43,7 @@ pub(crate) fn plain_numbers(page: &Page, count: u64) -> Page
 
 /// Returns word `i` of that page.
 fn plain_word(page: &Page, i: u64, count: u64) -> u64
-    requires { i < 512 }
+    requires { i < WORDS_PER_PAGE }
     ensures { result ≡ plain_word count page.now i }
 {
     let word = page.word(i as usize);

@@ -10,6 +10,7 @@ use Rattle.definitions.specs.SwapMap.{map_entry, map_link}
 use Rattle.image_walk.specs.declared.limits.Limits.{Limits}
 use Rattle.image_walk.specs.declared.visit.BlockFault.{BlockFault}
 use Rattle.image_walk.specs.declared.visit.BlockFault.TheVariants as fault
+use Rattle.definitions.specs.declared.counts.TheConstants.{MAP_PAGE_ENTRIES}
 
 -- a block that the header or a link names as a map, or an entry as a page; with its content, or why it has none
 pub data Name : Type 0 where
@@ -50,7 +51,7 @@ newest_page (page_at b answer ∷ h) = newest_page h
 -- how many of the newest map's 511 entries haven't been read yet
 abbrev pub left_in : List Name → ℕ
 left_in [] = 0
-left_in (map_at b (Ok page) ∷ h) = 511
+left_in (map_at b (Ok page) ∷ h) = MAP_PAGE_ENTRIES
 left_in (map_at b (Err why) ∷ h) = 0
 left_in (page_at b answer ∷ h) = left_in h - 1
 
@@ -95,7 +96,8 @@ abbrev pub IsNext : Limits → ℕ → List Name → Name → Type 0
 IsNext l first h (map_at b answer) =
     (left_in h ≡ 0) × (is_over h ≡ false) × (b ≡ next_map first h) × IsAnswer (fault_of l h b) b answer
 IsNext l first h (page_at b answer) =
-    (0 < left_in h) × (b ≡ map_entry (newest_page h) (511 - left_in h)) × IsAnswer (fault_of l h b) b answer
+    (0 < left_in h) × (b ≡ map_entry (newest_page h) (MAP_PAGE_ENTRIES - left_in h))
+    × IsAnswer (fault_of l h b) b answer
 
 -- each name follows those before it
 abbrev pub IsReading : Limits → ℕ → List Name → Type 0

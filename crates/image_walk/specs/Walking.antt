@@ -15,6 +15,7 @@ use Rattle.image_walk.specs.declared.visit.Visit.TheVariants as visit
 use Rattle.image_walk.specs.declared.walk.Named.{Named}
 use Rattle.image_walk.specs.declared.walk.Walk.{Walk}
 use Rattle.image_walk.specs.declared.walker.Walker.{Walker}
+use Rattle.definitions.specs.declared.counts.TheConstants.{BLOCKS_PER_MAP, MAP_PAGE_ENTRIES}
 
 -- the walk is at the end of the history, and the set has the blocks that may not be named again
 pub record Stands (l : Limits) (first : ℕ) (k : Walk) (words : List ℕ) (h : List Name) : Type 0 where
@@ -22,8 +23,8 @@ pub record Stands (l : Limits) (first : ℕ) (k : Walk) (words : List ℕ) (h : 
   pub taken : IsTaken l words h
   pub maps : k.maps ≡ maps_in h
   pub at : k.at ≡ newest_map h
-  pub page : k.entry < 511 → k.map ≡ newest_page h
-  pub left : 511 - k.entry ≡ left_in h
+  pub page : k.entry < MAP_PAGE_ENTRIES → k.map ≡ newest_page h
+  pub left : MAP_PAGE_ENTRIES - k.entry ≡ left_in h
   pub next : k.next ≡ next_map first h
   pub over : k.over ≡ is_over h
 
@@ -34,7 +35,7 @@ Follows first w h = Stands w.limits first w.walk w.named.items h
 -- the block that is named next: by an entry of the newest map, or else by the map's link, unless the chain has ended
 abbrev pub block_asked : Walk → Option ℕ
 block_asked k =
-    if nat_lt k.entry 511 then Some (map_entry k.map k.entry)
+    if nat_lt k.entry MAP_PAGE_ENTRIES then Some (map_entry k.map k.entry)
     else if k.over then None
     else Some k.next
 
@@ -66,7 +67,7 @@ name_of (visit.Entry number at index b answer) page = page_at b (seen answer pag
 abbrev pub IsPlaced : List Name → Visit → Type 0
 IsPlaced h (visit.Map number b answer) = number ≡ maps_in h + 1
 IsPlaced h (visit.Entry number at index b answer) =
-    (number ≡ maps_in h) × (at ≡ newest_map h) × (index ≡ 511 - left_in h)
+    (number ≡ maps_in h) × (at ≡ newest_map h) × (index ≡ MAP_PAGE_ENTRIES - left_in h)
 
 -- a name is the next one, with the page that the disk holds; if its read failed, the disk has counted a fault
 pub record IsSeen (l : Limits) (first : ℕ) (content : Option Content) (before now : ℕ) (h : List Name)
@@ -77,14 +78,14 @@ pub record IsSeen (l : Limits) (first : ℕ) (content : Option Content) (before 
 
 -- how many more names there may be
 abbrev pub walk_left : Limits → Walk → ℕ
-walk_left l k = 512 * (l.blocks + 1 - k.maps) + (511 - k.entry)
+walk_left l k = BLOCKS_PER_MAP * (l.blocks + 1 - k.maps) + (MAP_PAGE_ENTRIES - k.entry)
 
 abbrev pub names_left : Walker → ℕ
 names_left w = walk_left w.limits w.walk
 
 -- how many more names there may be if none of them is read
 abbrev pub unread_left : Walk → ℕ
-unread_left k = (511 - k.entry) + (if k.over then 0 else 1)
+unread_left k = (MAP_PAGE_ENTRIES - k.entry) + (if k.over then 0 else 1)
 
 -- a walk takes the next name, which is block b's, with the outcome of its read
 pub record Takes (l : Limits) (first : ℕ) (h : List Name) (b : ℕ) (told : Result (Unit {0}) BlockFault) (old new : Walk)

@@ -1,9 +1,10 @@
 use crate::naming::{fault, remember, reserve};
 use crate::{BlockFault, Limits, Visit};
+use definitions::MAP_PAGE_ENTRIES;
 use page_core::Page;
 
 /// The entries of a map page (MAP_PAGE_ENTRIES). The link is the word after them.
-const ENTRIES: usize = 511;
+const ENTRIES: usize = MAP_PAGE_ENTRIES as usize;
 
 /// The block that is named next, and the reason if it may not be read.
 #[derive(Clone, Copy, Debug, PartialEq, Eq)]
@@ -129,7 +130,7 @@ impl Walk {
     }
 
     fn take_entry(&mut self, block: u64, answer: Result<(), BlockFault>) -> Visit
-        requires { self.old.entry < 511 }
+        requires { self.old.entry < MAP_PAGE_ENTRIES }
         ensures visit { result ≡ Entry self.old.maps self.old.at self.old.entry block answer }
         ensures walk { self.new ≡ record self.old { entry = self.old.entry + 1 } }
     {

@@ -13,6 +13,7 @@ use Rattle.plain_machine.specs.Image.{maps_of, stream_pages}
 use Rattle.plain_machine.specs.Image.{page_place, map_place, laid_block, laid_entries, laid_write}
 use Rattle.plain_machine.specs.Image.{is_map_write, page_of_write}
 use Rattle.image_write.specs.Copies.{with_data, data_pages, IsPassed}
+use Rattle.definitions.specs.declared.counts.TheConstants.{BLOCKS_PER_MAP, MAP_PAGE_ENTRIES}
 
 -- What it writes, where, and how many writes it has made: the block of the first map, the block of the map that is
 -- being filled, its entries so far and its link, and the block of the next map once that is taken; and how many of the
@@ -42,7 +43,8 @@ taken_after written = page_place (page_of_write written)
 -- of a map takes none.
 abbrev pub slots_of_write : Info → List ℕ → ℕ → List ℕ
 slots_of_write info free k =
-    if is_map_write info.pages k then [] else take (if k % 512 == 510 then 2 else 1) (drop (taken_after k) free)
+    if is_map_write info.pages k then []
+    else take (if k % BLOCKS_PER_MAP == 510 then 2 else 1) (drop (taken_after k) free)
 
 -- the first `count` of these slots are the image's, and the others are the free slots of the table
 pub record HasTaken (free : List ℕ) (count : ℕ) (frames : List (List ℕ)) (table : SlotTable) : Type 0 where
@@ -64,10 +66,12 @@ pub record IsWriting (free : List ℕ) (frames : List (List ℕ)) (w : Writing) 
   pub unfinished : w.written < writes_of w.info
   pub slots : HasTaken free (taken_after w.written) frames w.table
   pub first : w.first ≡ laid_block w.extents free 0
-  pub block : w.block ≡ laid_block w.extents free (map_place (w.written / 512))
-  pub entries : w.entries.entries ≡ laid_entries w.extents free (511 * (w.written / 512)) (w.written % 512)
-  pub link : w.entries.link ≡ (if w.written % 512 == 511 then w.next else 0)
-  pub next : w.written % 512 ≡ 511 → w.next ≡ laid_block w.extents free (map_place (w.written / 512 + 1))
+  pub block : w.block ≡ laid_block w.extents free (map_place (w.written / BLOCKS_PER_MAP))
+  pub entries : w.entries.entries ≡ laid_entries w.extents free (MAP_PAGE_ENTRIES * (w.written / BLOCKS_PER_MAP))
+      (w.written % BLOCKS_PER_MAP)
+  pub link : w.entries.link ≡ (if w.written % BLOCKS_PER_MAP == MAP_PAGE_ENTRIES then w.next else 0)
+  pub next : w.written % BLOCKS_PER_MAP ≡ MAP_PAGE_ENTRIES →
+      w.next ≡ laid_block w.extents free (map_place (w.written / BLOCKS_PER_MAP + 1))
 
 -- the writer can go on, on a disk of `count` blocks
 abbrev pub IsReady : ℕ → List (List ℕ) → Writing → Type 0

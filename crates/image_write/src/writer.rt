@@ -17,10 +17,12 @@ use crate::WriteStep;
 use crate::copies::Cursor;
 use crate::sets::Sets;
 use crate::stream::head_page;
+use definitions::{BLOCKS_PER_MAP, MAP_PAGE_ENTRIES, number_page_count};
 use frame_arena::Frames;
 use image_format::info::Info;
 use image_format::{MapWriter, Pushed};
 use page_core::{Failed, Page};
+use plain_machine::image_writes;
 use sector_disk::Disk;
 use std::marker::Model;
 use swap_slots::{FileMap, FreeRuns, SlotEntry, SlotTable};
@@ -323,7 +325,8 @@ impl Writer {
         requires originals { length (origs_of sets.now) ≡ self.now.info.image_pages }
         ensures { IsTrue result ↔ (page_of_write self.now.written ≤ meta_of self.now.info.image_pages) }
     {
-        self.written - self.written / 512 <= sets.origs.len().div_ceil(512)
+        u64::from(self.written - self.written / BLOCKS_PER_MAP)
+            <= number_page_count(sets.origs.len() as u64)
     }
 
     /// Returns the next info page or number page.
@@ -338,7 +341,7 @@ impl Writer {
             &self.info,
             sets.origs,
             sets.zeros,
-            self.written - self.written / 512,
+            self.written - self.written / BLOCKS_PER_MAP,
         )
     }
 
@@ -370,7 +373,7 @@ impl Writer {
         requires unfinished { self.now.written < writes_of self.now.info }
         ensures { result ≡ is_map_write self.now.info.pages self.now.written }
     {
-        self.written % 512 == 511 || self.written + 1 == writes(&self.info)
+        self.written % BLOCKS_PER_MAP == MAP_PAGE_ENTRIES || self.written + 1 == writes(&self.info)
     }
 }
 
@@ -379,7 +382,7 @@ fn writes(info: &Info) -> u32
     requires { writes_of info.now < 2 ^ 32 }
     ensures { result ≡ writes_of info.now }
 {
-    (info.pages + info.pages / 511 + 1) as u32
+    image_writes(info.pages as u32)
 }
 
 /// Gives the least free slot to the image, and returns its block.

@@ -11,6 +11,7 @@ ghost use Rattle.machine.specs.FreshSlots.{slot_of_area};
 use crate::Hardware;
 use crate::tables::slot_table;
 use bitflags::Flags;
+use definitions::ENTRIES_PER_FRAME;
 use frame_arena::Frames;
 use frame_table::{PageFlags, set_entry};
 use image_format::Area;
@@ -21,9 +22,6 @@ use swap_slots::SlotEntry;
 const FREE: u16 = 1;
 
 const IN_USE: u16 = 0;
-
-/// The entries of 4 bytes that a page frame has.
-pub(crate) const ENTRIES: u32 = 1024;
 
 /// Fills the page frames with fresh memory, except for the slot table's entries: zeros and the frame table, in which
 /// the tables' page frames are in use, those of a region have its flags, and all others are free.
@@ -91,7 +89,7 @@ fn is_of_table(first: u32, entries: u32, p: u32) -> bool
     requires entries { entries ≤ 131072 }
     ensures { result ≡ is_of_table first entries p }
 {
-    first <= p && p < first + entries.div_ceil(ENTRIES)
+    first <= p && p < first + entries.div_ceil(ENTRIES_PER_FRAME)
 }
 
 /// Sets the slot table's entries in fresh memory. If the area can be used, slot 0 and the bad pages are bad and all

@@ -14,9 +14,10 @@ ghost use Rattle.swap_slots.specs.Entries.{entry_of_word, word_of};
 ghost use Rattle.machine.specs.Running.{slot_table_of};
 
 use crate::Hardware;
-use crate::fresh::{ENTRIES, is_bad};
+use crate::fresh::is_bad;
 use crate::tasks::is_valid;
 use bitflags::Flags;
+use definitions::ENTRIES_PER_FRAME;
 use frame_arena::Frames;
 use frame_table::{PageFlags, entry};
 use image_format::Area;
@@ -95,7 +96,7 @@ fn slot_table_fits(frames: &Frames, hw: &Hardware) -> Result<(), u32>
 pub(crate) fn table_len(entries: u32) -> u32
     ensures { result ≡ table_len entries }
 {
-    entries.div_ceil(ENTRIES)
+    entries.div_ceil(ENTRIES_PER_FRAME)
 }
 
 /// Returns whether page frame `i` of the frame table, from 0, has no fault: its own entry, and the entries in it.
@@ -142,10 +143,10 @@ fn is_saveable(flags: PageFlags) -> bool
 fn entries_fit(frames: &Frames, hw: &Hardware, i: u32) -> bool
     requires size { length frames.now ≡ top hw.now.zones }
     requires within { i < 128 }
-    ensures { IsTrue result ↔ ((p : ℕ) → p / 1024 ≡ i → Contains (numbers hw.now.zones) p →
+    ensures { IsTrue result ↔ ((p : ℕ) → p / ENTRIES_PER_FRAME ≡ i → Contains (numbers hw.now.zones) p →
         is_well_formed (frame_entry hw.now frames.now p) ≡ true) }
 {
-    for p in ENTRIES * i..ENTRIES * (i + 1) {
+    for p in ENTRIES_PER_FRAME * i..ENTRIES_PER_FRAME * (i + 1) {
         if !entry_fits(frames, hw, p) {
             return false;
         }
@@ -181,10 +182,10 @@ fn is_well_formed(flags: u16, owner: u16) -> bool
 fn slots_fit(frames: &Frames, hw: &Hardware, i: u32) -> bool
     requires size { length frames.now ≡ top hw.now.zones }
     requires within { i < 128 }
-    ensures { IsTrue result ↔ ((s : ℕ) → s / 1024 ≡ i → s < hw.now.slots →
+    ensures { IsTrue result ↔ ((s : ℕ) → s / ENTRIES_PER_FRAME ≡ i → s < hw.now.slots →
         is_slot_entry s (raw_slot_entry hw.now frames.now s) ≡ true) }
 {
-    for slot in ENTRIES * i..hw.slots().min(ENTRIES * (i + 1)) {
+    for slot in ENTRIES_PER_FRAME * i..hw.slots().min(ENTRIES_PER_FRAME * (i + 1)) {
         if !slot_fits(frames, hw, slot) {
             return false;
         }

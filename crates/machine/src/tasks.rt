@@ -10,6 +10,7 @@ ghost use Rattle.plain_machine.specs.Machine.{frame_entry, is_valid, IsHardware}
 ghost use Rattle.machine.specs.OwnFrames.{ChangesOwn};
 ghost use Rattle.machine.specs.Running.{AreReserved};
 ghost use Rattle.machine.specs.TaskRow.{HasFrameRow, IsRefusal, own_refusal};
+ghost use Rattle.definitions.specs.declared.counts.TheConstants.{WORDS_PER_PAGE};
 
 use crate::tables::are_whole;
 use crate::{Hardware, Machine};
@@ -94,7 +95,7 @@ fn release(frames: &mut Frames, hw: &Hardware, t: u32, p: u32) -> Reply
 
 fn store(frames: &mut Frames, hw: &Hardware, t: u32, p: u32, k: u32, v: u64) -> Reply
     requires task { IsTask t }
-    requires word { k < 512 }
+    requires word { k < WORDS_PER_PAGE }
     requires frames { length frames.old ≡ top hw.now.zones }
     requires reserved { AreReserved hw.now frames.old }
     ensures row { HasFrameRow hw.now t (op.Store p k v) frames.old frames.new result }
@@ -113,7 +114,7 @@ fn store(frames: &mut Frames, hw: &Hardware, t: u32, p: u32, k: u32, v: u64) -> 
 
 fn show(frames: &mut Frames, hw: &Hardware, t: u32, p: u32, k: u32) -> Reply
     requires task { IsTask t }
-    requires word { k < 512 }
+    requires word { k < WORDS_PER_PAGE }
     requires frames { length frames.old ≡ top hw.now.zones }
     requires reserved { AreReserved hw.now frames.old }
     ensures row { HasFrameRow hw.now t (op.Show p k) frames.old frames.new result }

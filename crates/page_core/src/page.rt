@@ -1,5 +1,6 @@
 ghost use Rattle.std.specs.Prelude.{◌≡◌, ℕ, ◌+◌, ◌*◌, ◌<◌, ◌≤◌, ◌↔◌, IsTrue, List, length, slice_index, EachIndex};
 ghost use Rattle.definitions.specs.Bytes.{number_at, with_number, word, with_word, zero_page, filled_page, IsPage};
+ghost use Rattle.definitions.specs.declared.counts.TheConstants.{WORDS_PER_PAGE};
 
 use byteorder::{ByteOrder, LittleEndian};
 use std::marker::Model;
@@ -62,7 +63,7 @@ impl Page {
 
     /// Returns the 8-byte number at offset 8i.
     pub fn word(&self, i: usize) -> u64
-        requires { i < 512 }
+        requires { i < WORDS_PER_PAGE }
         ensures { result ≡ word self.now i }
     {
         LittleEndian::read_u64(&self.bytes[8 * i..])
@@ -70,7 +71,7 @@ impl Page {
 
     /// Sets the 8-byte number at offset 8i, and leaves the rest.
     pub fn set_word(&mut self, i: usize, v: u64)
-        requires { i < 512 }
+        requires { i < WORDS_PER_PAGE }
         ensures set { self.new ≡ with_word self.old i v }
         ensures page { IsPage self.new }
     {

@@ -15,6 +15,7 @@ use Rattle.plain_machine.specs.Machine.{Hardware, block_of_slot}
 use Rattle.plain_machine.specs.Image.{Image, pages_of, stream_of}
 use Rattle.plain_machine.specs.declared.reply.Reply.{Reply}
 use Rattle.plain_machine.specs.declared.reply.Reply.TheVariants.{NoChain, BadBlock, ChainEnds}
+use Rattle.definitions.specs.declared.counts.TheConstants.{MAP_PAGE_ENTRIES}
 
 -- the number of blocks of a disk that reads as v
 abbrev pub blocks_of : disk.DiskImage → ℕ
@@ -51,7 +52,7 @@ map_block v b (suc j) = map_link (disk.block v (map_block v b j))
 
 -- entry k of the chain, from 0
 abbrev pub entry_block : disk.DiskImage → ℕ → ℕ → ℕ
-entry_block v b k = map_entry (disk.block v (map_block v b (k / 511))) (k % 511)
+entry_block v b k = map_entry (disk.block v (map_block v b (k / MAP_PAGE_ENTRIES))) (k % MAP_PAGE_ENTRIES)
 
 abbrev pub block_fault : Hardware → disk.DiskImage → ℕ → Option Reply
 block_fault h v x = if is_at_fault h v x then Some (BadBlock x) else None
@@ -78,7 +79,8 @@ first_some (x ∷ xs) = or_else x (first_some xs)
 -- what is wrong at entry k in reading order: if it is the first entry of its map, the map comes before it
 abbrev pub place_fault : Hardware → disk.DiskImage → ℕ → ℕ → Option Reply
 place_fault h v b k =
-    if k % 511 == 0 then or_else (map_fault h v b (k / 511)) (entry_fault h v b k) else entry_fault h v b k
+    if k % MAP_PAGE_ENTRIES == 0 then or_else (map_fault h v b (k / MAP_PAGE_ENTRIES)) (entry_fault h v b k)
+    else entry_fault h v b k
 
 abbrev pub ok_unless : {A E : Type 0} → Option E → A → Result A E
 ok_unless None x = Ok x
@@ -98,7 +100,7 @@ pub record Holds (h : Hardware) (v : disk.DiskImage) (i : Image) : Type 0 where
   pub whole : (blocks : List ℕ) × (chain h v (image_of (header_of h v)) (pages_of i) ≡ Ok blocks)
       × (map (disk.block v) blocks ≡ stream_of i)
   pub slots : (s : ℕ) (page : List ℕ) → i.slots s ≡ Some page → disk.block v (block_of_slot h s) ≡ page
-  pub maps_apart : (s j : ℕ) (page : List ℕ) → i.slots s ≡ Some page → 511 * j ≤ pages_of i →
+  pub maps_apart : (s j : ℕ) (page : List ℕ) → i.slots s ≡ Some page → MAP_PAGE_ENTRIES * j ≤ pages_of i →
       map_block v (image_of (header_of h v)) j ≢ block_of_slot h s
   pub pages_apart : (s k : ℕ) (page : List ℕ) → i.slots s ≡ Some page → k < pages_of i →
       entry_block v (image_of (header_of h v)) k ≢ block_of_slot h s

@@ -10,13 +10,14 @@ use Rattle.plain_machine.specs.declared.event.Loader.{Loader}
 use Rattle.plain_machine.specs.declared.event.Loader.TheVariants as loader
 use Rattle.plain_machine.specs.declared.event.Ranges.{Ranges}
 use Rattle.plain_machine.specs.Machine.{IsTask}
+use Rattle.definitions.specs.declared.counts.TheConstants.{WORDS_PER_PAGE}
 
 -- page frame numbers are below 65536, words below 512, slots below 131072
 abbrev pub IsFittingOp : TaskOp → Type 0
 IsFittingOp (op.Claim p) = p < 65536
 IsFittingOp (op.Release p) = p < 65536
-IsFittingOp (op.Store p k v) = (p < 65536) × (k < 512)
-IsFittingOp (op.Show p k) = (p < 65536) × (k < 512)
+IsFittingOp (op.Store p k v) = (p < 65536) × (k < WORDS_PER_PAGE)
+IsFittingOp (op.Show p k) = (p < 65536) × (k < WORDS_PER_PAGE)
 IsFittingOp (op.Cache p) = p < 65536
 IsFittingOp (op.Out p) = p < 65536
 IsFittingOp (op.TakeIn s p) = (s < 131072) × (p < 65536)

@@ -9,6 +9,7 @@ use Rattle.definitions.specs.Tables.{with_entry}
 use Rattle.definitions.specs.Zones.{numbers, top}
 use Rattle.plain_machine.specs.Loader.{has}
 use Rattle.plain_machine.specs.Machine.{Hardware, Memory, is_of_table, is_table_frame}
+use Rattle.definitions.specs.declared.counts.TheConstants.{ENTRIES_PER_FRAME}
 
 -- An entry of the frame table: 0 for a page frame of a table, the region's flags for one of a region, else free.
 abbrev pub region_flags : Option (ℕ × ℕ × ℕ) → ℕ
@@ -29,7 +30,8 @@ slot_table_entry h slots s = if nat_lt s h.slots then slots s else 0
 
 -- page frame p of the table that begins at page frame `first`: 1024 of its entries, 4 bytes each
 unfoldable pub table_page : ℕ → (ℕ → ℕ) → ℕ → List ℕ
-table_page first entry p = flat_map (λ k. little_bytes 4 (entry (1024 * (p - first) + k))) (range_with_len 0 1024)
+table_page first entry p =
+    flat_map (λ k. little_bytes 4 (entry (ENTRIES_PER_FRAME * (p - first) + k))) (range_with_len 0 ENTRIES_PER_FRAME)
 
 unfoldable pub fresh_page : Hardware → (ℕ → ℕ) → ℕ → List ℕ
 fresh_page h slots p =

@@ -15,6 +15,7 @@ use Rattle.plain_machine.specs.Machine.{Hardware, Memory, saveable, valid_count}
 use Rattle.std.specs.List.{range_with_len}
 use Rattle.definitions.specs.Slots.{block_of}
 use Rattle.definitions.specs.SwapMap.{map_page}
+use Rattle.definitions.specs.declared.counts.TheConstants.{BLOCKS_PER_MAP, MAP_PAGE_ENTRIES}
 
 -- the pages in the tasks' slots, by slot
 abbrev pub SlotPages : Type 0
@@ -69,10 +70,10 @@ abbrev pub pages_of : Image → ℕ
 pages_of i = d_of i + meta_of (n_of i) + 1
 
 abbrev pub maps_of : ℕ → ℕ
-maps_of pages = pages / 511 + 1
+maps_of pages = pages / MAP_PAGE_ENTRIES + 1
 
 abbrev pub maps_read : ℕ → ℕ
-maps_read pages = (pages + 510) / 511
+maps_read pages = (pages + 510) / MAP_PAGE_ENTRIES
 
 abbrev pub hibernate_steps : Image → ℕ
 hibernate_steps i = pages_of i + maps_of (pages_of i) + 4
@@ -98,10 +99,10 @@ stream_of i =
 
 -- how many slots are taken before page k of the stream, and before map j, each from 0 (alloc_swapdev_block)
 abbrev pub page_place : ℕ → ℕ
-page_place k = k + k / 511 + 1
+page_place k = k + k / MAP_PAGE_ENTRIES + 1
 
 abbrev pub map_place : ℕ → ℕ
-map_place j = 512 * j
+map_place j = BLOCKS_PER_MAP * j
 
 -- the block of the free slot that is taken after `place` others
 abbrev pub laid_block : List (ℕ × ℕ × ℕ) → List ℕ → ℕ → ℕ
@@ -115,22 +116,23 @@ laid_entries extents free k n = map (λ i. laid_block extents free (page_place i
 -- (struct swap_map_page).
 unfoldable pub laid_map : List (ℕ × ℕ × ℕ) → List ℕ → ℕ → ℕ → List ℕ
 laid_map extents free pages j =
-    map_page (laid_entries extents free (511 * j) (min 511 (pages - 511 * j)))
+    map_page (laid_entries extents free (MAP_PAGE_ENTRIES * j) (min MAP_PAGE_ENTRIES (pages - MAP_PAGE_ENTRIES * j)))
     (if j + 1 == maps_of pages then 0 else laid_block extents free (map_place (j + 1)))
 
 -- whether write k, from 0, writes a map: each write after 511 pages does, and the last one (save_image,
 -- swap_writer_finish)
 abbrev pub is_map_write : ℕ → ℕ → Bool
-is_map_write pages k = (k % 512 == 511) || (k + 1 == pages + maps_of pages)
+is_map_write pages k = (k % BLOCKS_PER_MAP == MAP_PAGE_ENTRIES) || (k + 1 == pages + maps_of pages)
 
 -- the number, from 0, of the page of the stream that write k writes if it doesn't write a map
 abbrev pub page_of_write : ℕ → ℕ
-page_of_write k = k - k / 512
+page_of_write k = k - k / BLOCKS_PER_MAP
 
 -- Write k of a stream of `pages` pages: the block, and what is written there, which is a map or else `page`.
 abbrev pub laid_write : List (ℕ × ℕ × ℕ) → List ℕ → ℕ → List ℕ → ℕ → ℕ × List ℕ
 laid_write extents free pages page k =
-    if is_map_write pages k then (laid_block extents free (map_place (k / 512)), laid_map extents free pages (k / 512))
+    if is_map_write pages k
+    then (laid_block extents free (map_place (k / BLOCKS_PER_MAP)), laid_map extents free pages (k / BLOCKS_PER_MAP))
     else (laid_block extents free (page_place (page_of_write k)), page)
 
 -- all writes, in order

@@ -11,6 +11,7 @@ use Rattle.definitions.specs.Slots.{block_of}
 use Rattle.definitions.specs.FileMaps.{IsFileMap}
 use Rattle.definitions.specs.Tables.{saveable_frames, free_frames}
 use Rattle.definitions.specs.declared.info.Ident.{Ident}
+use Rattle.definitions.specs.declared.counts.TheConstants.{ENTRIES_PER_FRAME}
 
 -- A machine's hardware: zones (start, count), the number of slots (last_page + 1), the first page frames of the frame
 -- table and of the slot table, regions (start, count, flags), its identity and hardware signature (0 if there is none),
@@ -75,7 +76,7 @@ unused_slots h m = filter (λ s. slot_entry h m s == 0) (range_with_len 0 h.slot
 
 -- page frames of the two tables, ascending
 abbrev pub table_len : ℕ → ℕ
-table_len entries = (entries + 1023) / 1024
+table_len entries = (entries + 1023) / ENTRIES_PER_FRAME
 
 abbrev pub frame_table_frames : Hardware → List ℕ
 frame_table_frames h = range_with_len h.frame_table (table_len (top h.zones))
@@ -119,8 +120,9 @@ is_slot_entry s entry = (entry == bad_slot) || (not (s == 0) && nat_le entry 64)
 abbrev pub is_table_at_fault : Hardware → Memory → ℕ → Bool
 is_table_at_fault h m f =
     not (is_saveable (page_flags (frame_entry h m f))) || not (owner_of (frame_entry h m f) == 0)
-    || list_any (λ p. (h.frame_table + p / 1024 == f) && not (is_well_formed (frame_entry h m p))) (numbers h.zones)
-    || list_any (λ s. (h.slot_table + s / 1024 == f)
+    || list_any (λ p. (h.frame_table + p / ENTRIES_PER_FRAME == f)
+    && not (is_well_formed (frame_entry h m p))) (numbers h.zones)
+    || list_any (λ s. (h.slot_table + s / ENTRIES_PER_FRAME == f)
     && not (is_slot_entry s (raw_slot_entry h m s))) (range_with_len 0 h.slots)
 
 -- the first table frame at fault

@@ -25,6 +25,7 @@ use Rattle.plain_machine.specs.declared.event.Loader.TheVariants as loader
 use Rattle.plain_machine.specs.declared.no_swap.NoSwap.{NoSwap}
 use Rattle.plain_machine.specs.declared.reply.Reply.{Reply}
 use Rattle.plain_machine.specs.declared.reply.Reply.TheVariants as reply
+use Rattle.definitions.specs.declared.counts.TheConstants.{SPARE_FRAMES, SPARE_SLOTS}
 
 -- refused with this reply, if the test holds
 abbrev pub refused_if : Bool → Reply → Option Reply
@@ -91,14 +92,14 @@ no_swap (Some why) = Some (reply.NoSwap why)
 -- enough_free_mem: page frames for the copies, and PAGES_FOR_IO
 abbrev pub no_frames : Hardware → Running → Image → Option Reply
 no_frames h a i =
-    refused_if (nat_lt (length (unused h a.memory)) (n_of i + 1025))
-    (reply.NoFrames (length (unused h a.memory)) (n_of i + 1025))
+    refused_if (nat_lt (length (unused h a.memory)) (n_of i + SPARE_FRAMES))
+    (reply.NoFrames (length (unused h a.memory)) (n_of i + SPARE_FRAMES))
 
 -- enough_swap: slots for the stream, after the first map has taken one, and PAGES_FOR_IO
 abbrev pub no_slots : Hardware → Running → Image → Option Reply
 no_slots h a i =
-    refused_if (nat_lt (length (unused_slots h a.memory)) (pages_of i + 1026))
-    (reply.NoSlots (length (unused_slots h a.memory)) (pages_of i + 1026))
+    refused_if (nat_lt (length (unused_slots h a.memory)) (pages_of i + SPARE_SLOTS))
+    (reply.NoSlots (length (unused_slots h a.memory)) (pages_of i + SPARE_SLOTS))
 
 abbrev pub hibernate_refusal : Hardware → Format → Running → Option Reply
 hibernate_refusal h f a =

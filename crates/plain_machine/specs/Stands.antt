@@ -34,6 +34,7 @@ use Rattle.plain_machine.specs.declared.no_swap.NoSwap.{NoSwap}
 use Rattle.plain_machine.specs.declared.event.BootFrom.{BootFrom}
 use Rattle.plain_machine.specs.declared.event.BootFrom.TheVariants.{Fresh, Kept}
 use Rattle.plain_machine.specs.declared.event.Loader.TheVariants.{Table}
+use Rattle.definitions.specs.declared.counts.TheConstants.{BLOCKS_PER_MAP}
 
 -- every image of the disk has P
 abbrev pub EachImage : disk.Content → (disk.DiskImage → Type 0) → Type 0
@@ -193,7 +194,7 @@ pub record IsSameOrTakenBack (h : Hardware) (v w : disk.DiskImage) : Type 0 wher
 -- how many pages of the stream are read after k steps: after the four steps at block(0) every 512th step, beginning
 -- with the first, reads a map; and how many of them are data pages, which follow the info page and the number pages
 abbrev pub pages_read : ℕ → ℕ
-pages_read k = k - 4 - (k - 4 + 511) / 512
+pages_read k = k - 4 - (k - 4 + 511) / BLOCKS_PER_MAP
 
 abbrev pub data_read : Image → ℕ → ℕ
 data_read i k = pages_read k - (meta_of (n_of i) + 1)

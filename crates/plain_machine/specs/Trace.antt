@@ -27,6 +27,7 @@ use Rattle.plain_machine.specs.declared.event.IdentCheck.{IdentCheck}
 use Rattle.plain_machine.specs.declared.event.IdentCheck.TheVariants.{Compare, Skip}
 use Rattle.plain_machine.specs.declared.reply.Reply.{Reply}
 use Rattle.plain_machine.specs.declared.reply.Reply.TheVariants as reply
+use Rattle.definitions.specs.declared.counts.TheConstants.{BLOCKS_PER_MAP, WORDS_PER_PAGE}
 
 -- whether a bit of the flags is set
 abbrev pub is_set : ℕ → ℕ → Bool
@@ -52,7 +53,7 @@ meta_in h v = meta_of (info_in h v).image_pages
 
 -- word j of the number pages
 abbrev pub number_word : Hardware → disk.DiskImage → ℕ → ℕ
-number_word h v j = word (stream_page h v (1 + j / 512)) (j % 512)
+number_word h v j = word (stream_page h v (1 + j / WORDS_PER_PAGE)) (j % WORDS_PER_PAGE)
 
 -- the page frame number of word j, and whether the page has no data page, by the format
 abbrev pub number_by : Format → ℕ → ℕ
@@ -142,7 +143,8 @@ number_cause h v j =
 -- if the last number page isn't full, the word after the last number isn't the end value
 abbrev pub end_cause : Hardware → disk.DiskImage → ℕ → Option Reply
 end_cause h v n =
-    if (n % 512 == 0) || (number_word h v n == end_value) then None else Some (reply.PfnEnd (number_word h v n))
+    if (n % WORDS_PER_PAGE == 0) || (number_word h v n == end_value) then None
+    else Some (reply.PfnEnd (number_word h v n))
 
 -- After the last number page: the info page's count of pages doesn't agree with the number of data pages. (In a Plain
 -- image the test of the info page rules this out.)
@@ -162,7 +164,8 @@ room_cause h dump v loader =
 abbrev pub numbers_cause : Hardware → disk.DiskImage → ℕ → Option Reply
 numbers_cause h v q =
     let n = (info_in h v).image_pages in
-    let own = first_some (map (number_cause h v) (range_with_len (512 * q) (min 512 (n - 512 * q)))) in
+    let own = first_some (map (number_cause h v)
+    (range_with_len (WORDS_PER_PAGE * q) (min WORDS_PER_PAGE (n - WORDS_PER_PAGE * q)))) in
     if q + 1 == meta_of n then or_else own (or_else (end_cause h v n) (listed_cause h v)) else own
 
 -- What is read, in order: before every 511 pages of the stream their map, and the pages.
@@ -172,7 +175,7 @@ pub data Place : Type 0 where
 
 -- place number t, from 0: every 512th one, beginning with the first, is a map
 abbrev pub place : ℕ → Place
-place t = if t % 512 == 0 then map_at (t / 512) else page_at (t - t / 512 - 1)
+place t = if t % BLOCKS_PER_MAP == 0 then map_at (t / BLOCKS_PER_MAP) else page_at (t - t / BLOCKS_PER_MAP - 1)
 
 -- the number of places of a stream of `pages` pages; the info page is read before its counts are known
 abbrev pub place_count : ℕ → ℕ

@@ -1,4 +1,5 @@
 use crate::event::{Actor, Event, Loader, Ranges, TaskOp};
+use definitions::WORDS_PER_PAGE;
 
 impl Event {
     ghost use Rattle.std.specs.Prelude.{◌↔◌, IsTrue};
@@ -30,8 +31,8 @@ impl TaskOp {
         match *self {
             TaskOp::Claim(p) => is_frame(p),
             TaskOp::Release(p) => is_frame(p),
-            TaskOp::Store(p, k, _) => is_frame(p) && k < 512,
-            TaskOp::Show(p, k) => is_frame(p) && k < 512,
+            TaskOp::Store(p, k, _) => is_frame(p) && k < WORDS_PER_PAGE,
+            TaskOp::Show(p, k) => is_frame(p) && k < WORDS_PER_PAGE,
             TaskOp::Cache(p) => is_frame(p),
             TaskOp::Out(p) => is_frame(p),
             TaskOp::TakeIn(slot, p) => slot < 131_072 && is_frame(p),

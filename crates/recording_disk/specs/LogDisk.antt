@@ -8,6 +8,7 @@ use Rattle.recording_disk.specs.Moments.{WasLeft}
 use Rattle.recording_disk.specs.declared.log_disk.LogDisk.{LogDisk}
 use Rattle.sector_disk.specs.declared.orders.Order.{Order}
 use Rattle.sector_disk.specs.declared.recorded.Recorded.{Recorded}
+use Rattle.definitions.specs.declared.counts.TheConstants.{SECTOR_SIZE}
 
 -- how many blocks the disk has
 abbrev pub block_count : LogDisk → ℕ
@@ -106,9 +107,9 @@ pub record IsOrdered (order : Order) (old new : LogDisk) : Type 0 where
 -- a new disk: zeros, nothing counted, nothing armed, and room for the given number of calls
 pub record IsNewLogDisk (blocks calls : ℕ) (d : LogDisk) : Type 0 where
   pub blocks_are : block_count d ≡ blocks
-  pub durable : durable_sectors d ≡ replicate (8 * blocks) (replicate 512 0)
-  pub live : live_sectors d ≡ replicate (8 * blocks) (replicate 512 0)
-  pub first : first_sectors d ≡ replicate (8 * blocks) (replicate 512 0)
+  pub durable : durable_sectors d ≡ replicate (8 * blocks) (replicate SECTOR_SIZE 0)
+  pub live : live_sectors d ≡ replicate (8 * blocks) (replicate SECTOR_SIZE 0)
+  pub first : first_sectors d ≡ replicate (8 * blocks) (replicate SECTOR_SIZE 0)
   pub nothing_recorded : recorded d ≡ []
   pub room_is : room d ≡ calls
   pub no_calls : call_count d ≡ 0

@@ -4,8 +4,9 @@ ghost use Rattle.sector_disk.specs.MemDisk as memory;
 ghost use Rattle.sector_disk.specs.Sectors.{AreSectors};
 ghost use Rattle.sector_disk.specs.Recorded.{held_after, as_synced, page_size, blocks_needed};
 
+use definitions::SECTOR_SIZE;
 use page_core::{Failed, NoMemory, Page};
-use sector_disk::{Disk, MemDisk, Recorded, SECTOR_SIZE, SECTORS_IN_BLOCK, Sector};
+use sector_disk::{Disk, MemDisk, Recorded, SECTORS_IN_BLOCK, Sector};
 use std::alloc::Global;
 
 /// A disk in memory that records its writes and syncs since the last restart.
@@ -109,7 +110,7 @@ impl LogDisk {
 
 /// Makes `count` sectors of zeros.
 fn zero_sectors(alloc: Global, count: usize) -> Result<Vec<Sector>, NoMemory>
-    ensures { IfOk result (λ sectors. sectors.items ≡ replicate count (replicate 512 0)) }
+    ensures { IfOk result (λ sectors. sectors.items ≡ replicate count (replicate SECTOR_SIZE 0)) }
 {
     let mut sectors = Vec::new(alloc);
     match sectors.resize(count, [0; SECTOR_SIZE]) {

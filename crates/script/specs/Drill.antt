@@ -22,6 +22,7 @@ use Rattle.plain_machine.specs.declared.reply.Reply.TheVariants as reply
 use Rattle.script.specs.Grammar.{ScriptValue}
 use Rattle.script.specs.Settings.{scripted_ident}
 use Rattle.script.specs.declared.tally.Tally.{Tally}
+use Rattle.definitions.specs.declared.counts.TheConstants.{WORDS_PER_PAGE}
 
 -- The machine: page frames 0 to 8191 with the tables in the lowest, and slots 0 to 16383, slot s on block s.
 abbrev pub drill_hardware : Hardware
@@ -44,7 +45,7 @@ abbrev pub task : ℕ → ℕ
 task i = 1 + i % 64
 
 abbrev pub word : ℕ → ℕ
-word i = i % 512
+word i = i % WORDS_PER_PAGE
 
 abbrev pub value : ℕ → ℕ → ℕ
 value c i = 1000003 * c + 7919 * i

@@ -10,9 +10,13 @@ ghost use Rattle.script.specs.Shapes.{IsScripted};
 
 use crate::ident::scripted_ident;
 use crate::reading::Script;
+use definitions::WORDS_PER_PAGE;
 use machine::{Hardware, Parts};
 use page_core::{Format, NoMemory};
-use plain_machine::{Actor, BootFrom, Event, IdentCheck, Loader, Ranges, TaskOp};
+use plain_machine::{
+    Actor, BootFrom, Event, IdentCheck, Loader, Ranges, TaskOp, image_pages, image_reads,
+    image_writes,
+};
 use std::alloc::{AllocError, Global};
 
 /// The most page frames that are swapped out.
@@ -127,14 +131,14 @@ fn store(i: u32, value: u64) -> Event
     requires { i < 2000 }
     ensures { result ≡ stores value i }
 {
-    asks(i, TaskOp::Store(frame(i), i % 512, value))
+    asks(i, TaskOp::Store(frame(i), i % WORDS_PER_PAGE, value))
 }
 
 fn show(i: u32) -> Event
     requires { i < 2000 }
     ensures { result ≡ shows i }
 {
-    asks(i, TaskOp::Show(frame(i), i % 512))
+    asks(i, TaskOp::Show(frame(i), i % WORDS_PER_PAGE))
 }
 
 fn out(i: u32) -> Event
@@ -165,7 +169,7 @@ fn pages(number: u32) -> u32
     ensures few { result ≤ 3000 }
 {
     let saved = TABLE_FRAMES + number;
-    saved + (saved + 511) / 512 + 1
+    image_pages(saved, saved)
 }
 
 fn add_core_steps(events: &mut Vec<Event>, count: u32) -> Result<(), AllocError>
@@ -251,7 +255,7 @@ fn add_hibernation(events: &mut Vec<Event>, pages: u32) -> Result<(), AllocError
         ∷ core_steps (pages + maps_of pages + 4)) }
 {
     events.push(Event::Hibernate(Format::Plain))?;
-    add_core_steps(events, pages + (pages / 511 + 1) + 4)
+    add_core_steps(events, image_writes(pages) + 4)
 }
 
 /// Adds a power cut and a resume.
@@ -262,7 +266,7 @@ fn add_resume(events: &mut Vec<Event>, pick: u32, pages: u32) -> Result<(), Allo
 {
     events.push(Event::Cut(u64::from(pick)))?;
     events.push(Event::Resume(Loader::Ranges(held_by_loader()), IdentCheck::Compare))?;
-    add_core_steps(events, 4 + (pages + 510) / 511 + pages)
+    add_core_steps(events, 4 + image_reads(pages))
 }
 
 /// Returns the page frames that the loader holds.

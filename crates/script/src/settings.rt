@@ -7,6 +7,7 @@ ghost use Rattle.script.specs.Items.{AreFitting, IsFittingSetting, IsZoneLine};
 
 use crate::grammar::Setting;
 use crate::ident::scripted_ident;
+use definitions::ENTRIES_PER_FRAME;
 use image_format::MOST_BADPAGES;
 use machine::{Hardware, Parts};
 use std::alloc::{AllocError, Global};
@@ -17,9 +18,6 @@ const DEFAULT_LAST: u32 = 3000;
 
 /// The zones if no line names one.
 const DEFAULT_ZONES: [(u32, u32); 1] = [(0, 4096)];
-
-/// The entries of a table that a page frame holds.
-const ENTRIES: u32 = 1024;
 
 /// What the settings of a script say so far.
 #[derive(Drop)]
@@ -172,5 +170,5 @@ fn tables_in(zones: &[(u32, u32)]) -> (u32, u32)
     let (lowest, _) = zones[0];
     let (start, count) = zones[zones.len() - 1];
     let top = start + count;
-    (lowest, lowest + top.div_ceil(ENTRIES))
+    (lowest, lowest + top.div_ceil(ENTRIES_PER_FRAME))
 }

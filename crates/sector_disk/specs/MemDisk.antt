@@ -6,6 +6,7 @@ use Rattle.sector_disk.specs.Calls.{IsDue}
 use Rattle.sector_disk.specs.Sectors.{content_of, padded}
 use Rattle.sector_disk.specs.declared.mem_disk.MemDisk.{MemDisk}
 use Rattle.sector_disk.specs.declared.orders.Order.{Order}
+use Rattle.definitions.specs.declared.counts.TheConstants.{SECTOR_SIZE}
 
 -- how many blocks the disk has
 abbrev pub block_count : MemDisk → ℕ
@@ -83,8 +84,8 @@ pub record IsOrdered (order : Order) (old new : MemDisk) : Type 0 where
 -- a new disk: zeros, nothing counted and nothing armed
 pub record IsNew (blocks : ℕ) (d : MemDisk) : Type 0 where
   pub blocks_are : block_count d ≡ blocks
-  pub durable : durable_sectors d ≡ replicate (8 * blocks) (replicate 512 0)
-  pub live : live_sectors d ≡ replicate (8 * blocks) (replicate 512 0)
+  pub durable : durable_sectors d ≡ replicate (8 * blocks) (replicate SECTOR_SIZE 0)
+  pub live : live_sectors d ≡ replicate (8 * blocks) (replicate SECTOR_SIZE 0)
   pub calls : call_count d ≡ 0
   pub faults : fault_count d ≡ 0
   pub orders : orders_got d ≡ []

@@ -4,10 +4,11 @@ use Rattle.std.specs.Prelude.{length, replicate, All, slice_index_or}
 use Rattle.std.specs.Int.{bit_at}
 use Rattle.std.specs.Str.{bytes_eq}
 use Rattle.definitions.specs.Disk.{Content, DiskImage, sector_bytes}
+use Rattle.definitions.specs.declared.counts.TheConstants.{SECTOR_SIZE}
 
 -- the sector of zeros
 abbrev pub zero_sector : List ℕ
-zero_sector = replicate 512 0
+zero_sector = replicate SECTOR_SIZE 0
 
 -- `count` sectors: first the kept ones, then zeros
 unfoldable pub padded : ℕ → DiskImage → DiskImage
@@ -55,7 +56,7 @@ pub record SameOutsideBlock (b : ℕ) (old new : DiskImage) : Type 0 where
 -- `count` sectors of 512 bytes
 pub record AreSectors (count : ℕ) (sectors : DiskImage) : Type 0 where
   pub size : length sectors ≡ count
-  pub whole : All (λ bytes. length bytes ≡ 512) sectors
+  pub whole : All (λ bytes. length bytes ≡ SECTOR_SIZE) sectors
 
 -- below sector `low` and from `high` on the two are the same
 pub record SameOutsideRange (low high : ℕ) (durable live : DiskImage) : Type 0 where

@@ -12,4 +12,4 @@ pub use disk::Disk;
 pub use mem_disk::MemDisk;
 pub use orders::{Order, Orders};
 pub use recorded::Recorded;
-pub use sectors::{SECTOR_SIZE, SECTORS_IN_BLOCK, Sector};
+pub use sectors::{SECTORS_IN_BLOCK, Sector};

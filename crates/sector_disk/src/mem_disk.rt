@@ -1,5 +1,6 @@
 ghost use Rattle.std.specs.Prelude.{◌≡◌, ◌*◌, ◌%◌, ◌≤◌, length, All, IfOk, vec_capacity};
 ghost use Rattle.sector_disk.specs.Sectors.{AreSectors, SameOutsideRange};
+ghost use Rattle.definitions.specs.declared.counts.TheConstants.{SECTOR_SIZE};
 
 use crate::Disk;
 use crate::calls::Calls;
@@ -33,8 +34,8 @@ pub struct MemDisk {
     ghost same_length: { length durable.items ≡ length live.items },
     ghost whole_blocks: { length live.items % 8 ≡ 0 },
     ghost within: { length live.items ≤ 8 * blocks },
-    ghost durable_whole: { All (λ bytes. length bytes ≡ 512) durable.items },
-    ghost live_whole: { All (λ bytes. length bytes ≡ 512) live.items },
+    ghost durable_whole: { All (λ bytes. length bytes ≡ SECTOR_SIZE) durable.items },
+    ghost live_whole: { All (λ bytes. length bytes ≡ SECTOR_SIZE) live.items },
     ghost durable_room: { 8 * blocks ≤ vec_capacity durable },
     ghost live_room: { 8 * blocks ≤ vec_capacity live },
     ghost synced: { SameOutsideRange low high durable.items live.items },

@@ -6,12 +6,11 @@ ghost use Rattle.std.specs.Simd.{first_chunks};
 ghost use Rattle.sector_disk.specs.Sectors.{IsPicked, IsPickedFrom, TakesPicked, TakesPage, SameOutsideBlock};
 ghost use Rattle.sector_disk.specs.Sectors.{SameOutsideRange, padded};
 
+use definitions::SECTOR_SIZE;
 use page_core::{NoMemory, Page};
 use std::alloc::Global;
 
 pub type Sector = [u8; SECTOR_SIZE];
-
-pub const SECTOR_SIZE: usize = 512;
 
 pub const SECTORS_IN_BLOCK: usize = 8;
 
@@ -31,7 +30,7 @@ pub fn fill_up(sectors: &mut Vec<Sector>, end: usize)
     requires more { vec_len sectors.old ≤ end }
     requires room { end ≤ vec_capacity sectors.old }
     ensures filled { sectors.new.items ≡ sectors.old.items ++
-        replicate (end - length sectors.old.items) (replicate 512 0) }
+        replicate (end - length sectors.old.items) (replicate SECTOR_SIZE 0) }
     ensures room { vec_capacity sectors.old ≤ vec_capacity sectors.new }
 {
     match sectors.resize(end, [0; SECTOR_SIZE]) {
@@ -61,8 +60,8 @@ pub fn read_block(sectors: &[Sector], into: &mut Page)
 
 /// Returns the sectors of a page.
 pub fn sectors_of(page: &Page) -> &[Sector]
-    ensures sectors { result.now ≡ first_chunks 512 8 page.now }
-    ensures whole { All (λ bytes. length bytes ≡ 512) result.now }
+    ensures sectors { result.now ≡ first_chunks SECTOR_SIZE 8 page.now }
+    ensures whole { All (λ bytes. length bytes ≡ SECTOR_SIZE) result.now }
 {
     page.as_bytes().as_chunks::<SECTOR_SIZE>().0
 }
@@ -72,7 +71,7 @@ pub fn copy_picked(from: &[Sector], into: &mut [Sector], first: usize, pick: u64
     requires same_length { length from.now ≡ length into.old }
     requires in_range { first + length from.now < 2 ^ 64 }
     ensures picked { IsPickedFrom first pick into.old from.now into.new }
-    ensures whole { All (λ bytes. length bytes ≡ 512) into.new }
+    ensures whole { All (λ bytes. length bytes ≡ SECTOR_SIZE) into.new }
 {
     for (s, sector) in from.iter().enumerate() {
         if (pick >> ((first + s) % 64)) & 1 == 1 {
@@ -86,7 +85,7 @@ pub fn write_block(sectors: &mut [Sector], b: usize, page: &Page)
     requires { 8 * b + 8 ≤ length sectors.old }
     ensures others { SameOutsideBlock b sectors.old sectors.new }
     ensures within { TakesPage b page.now sectors.new }
-    ensures whole { All (λ bytes. length bytes ≡ 512) sectors.new }
+    ensures whole { All (λ bytes. length bytes ≡ SECTOR_SIZE) sectors.new }
 {
     let first = SECTORS_IN_BLOCK * b;
     sectors[first..first + SECTORS_IN_BLOCK].copy_from_slice(sectors_of(page));
@@ -97,7 +96,7 @@ pub fn write_picked(sectors: &mut [Sector], b: usize, page: &Page, pick: u64)
     requires { 8 * b + 8 ≤ length sectors.old }
     ensures others { SameOutsideBlock b sectors.old sectors.new }
     ensures within { TakesPicked pick b page.now sectors.old sectors.new }
-    ensures whole { All (λ bytes. length bytes ≡ 512) sectors.new }
+    ensures whole { All (λ bytes. length bytes ≡ SECTOR_SIZE) sectors.new }
 {
     let first = SECTORS_IN_BLOCK * b;
     copy_picked(
@@ -134,7 +133,7 @@ pub fn restart_sectors(
     requires outside { SameOutsideRange low high durable.old live.old }
     ensures picked { IsPicked pick durable.old live.old live.new }
     ensures durable { durable.new ≡ live.new }
-    ensures whole { All (λ bytes. length bytes ≡ 512) live.new }
+    ensures whole { All (λ bytes. length bytes ≡ SECTOR_SIZE) live.new }
 {
     if low < high {
         copy_picked(&live[low..high], &mut durable[low..high], low, pick);

@@ -10,6 +10,7 @@ ghost use Rattle.definitions.specs.Zones.{top};
 ghost use Rattle.definitions.specs.Tables.{frame, HasTable};
 ghost use Rattle.definitions.specs.Tables.{saveable_frames, free_frames};
 ghost use Rattle.snapshot.specs.Taken.{zero_frames, set_over, AreFrameSets, CanBeWritten};
+ghost use Rattle.definitions.specs.declared.counts.TheConstants.{SPARE_FRAMES};
 
 use crate::atomic_copy::copy_all;
 use frame_arena::Frames;
@@ -84,10 +85,10 @@ impl Snapshot {
             } }
         ensures valid { AreFrameSets self.new }
         ensures enough { IsOk result ↔ (length
-            (saveable_frames view.now.zones.now view.now.table view.now.frames.now) + 1025
+            (saveable_frames view.now.zones.now view.now.table view.now.frames.now) + SPARE_FRAMES
             ≤ length (free_frames view.now.zones.now view.now.table view.now.frames.now)) }
         ensures short { IsErr result ↔ (length (free_frames view.now.zones.now view.now.table view.now.frames.now)
-            < length (saveable_frames view.now.zones.now view.now.table view.now.frames.now) + 1025) }
+            < length (saveable_frames view.now.zones.now view.now.table view.now.frames.now) + SPARE_FRAMES) }
         ensures counts { IfOk result (λ counts. let origs = saveable_frames view.now.zones.now view.now.table
             view.now.frames.now in
             counts ≡ record {
@@ -96,7 +97,7 @@ impl Snapshot {
             }) }
         ensures tells { IfErr result (λ short. short ≡ record {
           free = length (free_frames view.now.zones.now view.now.table view.now.frames.now);
-          need = length (saveable_frames view.now.zones.now view.now.table view.now.frames.now) + 1025;
+          need = length (saveable_frames view.now.zones.now view.now.table view.now.frames.now) + SPARE_FRAMES;
         }) }
     {
         self.format = format;

@@ -12,6 +12,7 @@ use Rattle.plain_machine.specs.UsableArea.{kind_fault, bad_slots_of}
 use Rattle.stream_in.specs.Grammar.{all_pages, first_fault}
 use Rattle.plain_machine.specs.declared.no_swap.NoSwap.{NoSwap}
 use Rattle.plain_machine.specs.declared.no_swap.NoSwap.TheVariants as no_swap
+use Rattle.definitions.specs.declared.counts.TheConstants.{SPARE_SLOTS}
 
 -- block 0 of a disk with the given number of blocks, or a page of zeros if it has none
 abbrev pub first_block : ℕ → disk.DiskImage → List ℕ
@@ -47,10 +48,10 @@ pub record HasTooFewFor (free bs : List ℕ) (told need : ℕ) : Type 0 where
   pub whole : 4096 ≤ length bs
   pub sound : first_fault (take 4096 bs) ≡ None
   pub told_free : told ≡ length free
-  pub told_need : need ≡ all_pages bs + 1026
+  pub told_need : need ≡ all_pages bs + SPARE_SLOTS
   pub fewer : told < need
 
 -- If these bytes have a whole info page without a fault, as many slots are free as the image may need. So if there are
 -- too few, no other fault is reported.
 abbrev pub SufficeFor : (free bs : List ℕ) → Type 0
-SufficeFor free bs = 4096 ≤ length bs → first_fault (take 4096 bs) ≡ None → all_pages bs + 1026 ≤ length free
+SufficeFor free bs = 4096 ≤ length bs → first_fault (take 4096 bs) ≡ None → all_pages bs + SPARE_SLOTS ≤ length free

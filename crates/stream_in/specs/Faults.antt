@@ -5,6 +5,7 @@ use Rattle.stream_in.specs.declared.checking.fault.Kind.{Kind}
 use Rattle.stream_in.specs.declared.checking.fault.Kind.TheVariants.{Counts, Pfn, Order, End, Extra, Short}
 use Rattle.stream_in.specs.declared.checking.fault.StreamFault.{StreamFault}
 use Rattle.stream_in.specs.Grammar.{image_pages, all_pages, place, number, are_counts, first_fault}
+use Rattle.definitions.specs.declared.counts.TheConstants.{WORDS_PER_PAGE}
 
 -- the info page is whole, and its counts are those of an image
 pub record HasCounts (bs : List ℕ) : Type 0 where
@@ -23,7 +24,7 @@ HasFault bs Pfn at =
 HasFault bs Order at = HasCounts bs × ((j : ℕ) × (at ≡ place (suc j)) × HasWord bs (suc j) × (suc j < image_pages bs)
     × (number bs (suc j) < 65536) × (number bs (suc j) ≤ number bs j))
 HasFault bs End at =
-    HasCounts bs × (at ≡ place (image_pages bs)) × HasWord bs (image_pages bs) × (image_pages bs % 512 ≢ 0)
+    HasCounts bs × (at ≡ place (image_pages bs)) × HasWord bs (image_pages bs) × (image_pages bs % WORDS_PER_PAGE ≢ 0)
     × (number bs (image_pages bs) ≢ end_value)
 HasFault bs Extra at = HasCounts bs × (at ≡ 4096 * all_pages bs) × (at < length bs)
 HasFault bs Short at = ⊥

@@ -7,6 +7,7 @@ use Rattle.definitions.specs.NumberPages.{meta_of, end_value}
 use Rattle.stream_in.specs.declared.checking.fault.Kind.{Kind}
 use Rattle.stream_in.specs.declared.checking.fault.Kind.TheVariants.{Counts, Pfn, Order, End, Extra, Short}
 use Rattle.stream_in.specs.declared.checking.fault.StreamFault.{StreamFault}
+use Rattle.definitions.specs.declared.counts.TheConstants.{WORDS_PER_PAGE}
 
 -- what the info page says: how many pages were saved, and how many pages the stream has (struct swsusp_info)
 abbrev pub image_pages : List ℕ → ℕ
@@ -46,7 +47,7 @@ abbrev pub kind_of_number : ℕ → ℕ → Option Kind
 kind_of_number least v = if nat_le 65536 v then Some Pfn else if nat_lt v least then Some Order else None
 
 abbrev pub kind_of_end : ℕ → ℕ → Option Kind
-kind_of_end n v = if n % 512 == 0 || v == end_value then None else Some End
+kind_of_end n v = if n % WORDS_PER_PAGE == 0 || v == end_value then None else Some End
 
 -- what is wrong with word j of n numbers
 abbrev pub kind_of_word : ℕ → ℕ → ℕ → ℕ → Option Kind

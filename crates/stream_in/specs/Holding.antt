@@ -15,6 +15,7 @@ use Rattle.plain_machine.specs.Chain.{header_of, Marked, chain, Holds}
 use Rattle.stream_in.specs.Grammar.{all_pages}
 use Rattle.definitions.specs.Disk.{Content, DiskImage, as_it_reads, block}
 use Rattle.definitions.specs.FileMaps.{IsFileMap}
+use Rattle.definitions.specs.declared.counts.TheConstants.{MAP_PAGE_ENTRIES}
 
 -- What the writes of a stream have left on the disk.
 
@@ -42,7 +43,7 @@ page_at bs i = bytes_at 4096 bs (4096 * i)
 -- how many writes of Laid are made when k pages of the given number are written: the pages, the maps that they fill,
 -- and in the end the last map
 abbrev pub writes_after : ℕ → ℕ → ℕ
-writes_after pages k = if k == pages then pages + maps_of pages else k + k / 511
+writes_after pages k = if k == pages then pages + maps_of pages else k + k / MAP_PAGE_ENTRIES
 
 -- The writes for the whole pages of these bytes read as they were made.
 abbrev pub AreWritten : List (ℕ × ℕ × ℕ) → List ℕ → List ℕ → DiskImage → Type 0

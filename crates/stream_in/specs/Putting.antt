@@ -14,10 +14,11 @@ use Rattle.stream_in.specs.Outside.{PutsAtRest, FailsAtRest}
 use Rattle.stream_in.specs.declared.stop.InStop.{InStop}
 use Rattle.stream_in.specs.declared.stop.InStop.TheVariants as stop
 use Rattle.stream_in.specs.Grammar.{image_pages, all_pages, are_counts}
+use Rattle.definitions.specs.declared.counts.TheConstants.{BLOCKS_PER_MAP, MAP_PAGE_ENTRIES, SPARE_SLOTS}
 
 -- whether a map is written next
 abbrev pub is_map_next : WriteStep → Bool
-is_map_next (More k writes) = (k % 512 == 511) || (k + 1 == writes)
+is_map_next (More k writes) = (k % BLOCKS_PER_MAP == MAP_PAGE_ENTRIES) || (k + 1 == writes)
 is_map_next Done = false
 is_map_next Fault = false
 
@@ -72,7 +73,7 @@ first_in extents free (Some w) = w.first
 
 -- the slots suffice for an image that begins
 abbrev pub Suffice : List ℕ → List ℕ → Option Writing → Type 0
-Suffice free page None = all_pages page + 1026 ≤ length free
+Suffice free page None = all_pages page + SPARE_SLOTS ≤ length free
 Suffice free page (Some w) = ⊤
 
 -- The page is written.
@@ -89,7 +90,7 @@ pub record HasPut (free : List ℕ) (frames : List (List ℕ)) (table : SlotTabl
 pub record HasTooFew (free : List ℕ) (page : List ℕ) (old : Option Writing) (told need : ℕ) : Type 0 where
   pub begins : old ≡ None
   pub told_free : told ≡ length free
-  pub told_need : need ≡ all_pages page + 1026
+  pub told_need : need ≡ all_pages page + SPARE_SLOTS
   pub fewer : told < need
 
 -- What the put of a full page reports if the page can be put and these slots are free: the page is written, if the

@@ -13,6 +13,7 @@ use Rattle.stream_in.specs.Holding.{first_blocks}
 use Rattle.stream_in.specs.Holding.{AreOfMap, writes_after}
 use Rattle.stream_in.specs.declared.session.StreamIn.{StreamIn}
 use Rattle.stream_in.specs.declared.stop.InStop.{InStop}
+use Rattle.definitions.specs.declared.counts.TheConstants.{SPARE_SLOTS}
 
 -- the bytes so far of the page that is being filled
 abbrev pub HasPage : List ℕ → List ℕ → Type 0
@@ -28,7 +29,7 @@ pub record IsUnbegun (free bs : List ℕ) (frames : List (List ℕ)) (table : Sl
 pub record IsBegun (free bs : List ℕ) (frames : List (List ℕ)) (table : SlotTable) (extents : List (ℕ × ℕ
     × ℕ)) (w : Writing) : Type 0 where
   pub late : 4096 ≤ length bs
-  pub room : all_pages bs + 1026 ≤ length free
+  pub room : all_pages bs + SPARE_SLOTS ≤ length free
   pub pages : w.info.pages ≡ all_pages bs
   pub written : w.written ≡ writes_after (all_pages bs) (length bs / 4096)
   pub going : length bs < 4096 * all_pages bs → IsWriting free frames w

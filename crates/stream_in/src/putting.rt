@@ -19,6 +19,7 @@ ghost use Rattle.stream_in.specs.declared.stop.InStop.TheVariants as stop;
 
 use crate::InStop;
 use crate::slots::SwapSlots;
+use definitions::{BLOCKS_PER_MAP, MAP_PAGE_ENTRIES, SPARE_SLOTS};
 use frame_arena::Frames;
 use image_format::info::decode;
 use image_write::{WriteStep, Writer};
@@ -26,9 +27,6 @@ use page_core::{Failed, Page};
 use plain_machine::Left;
 use sector_disk::Disk;
 use swap_slots::FreeRuns;
-
-/// The free slots that an image needs beyond its number of pages.
-const SPARE_SLOTS: u32 = 1026;
 
 /// Writes a full page, and the maps that follow it. At the first page the writer begins, and the disk is synced before
 /// anything is written.
@@ -133,10 +131,11 @@ fn begin(
         HasBegun (info_of page.now) slots.now.map.now slots.now.table.now (free_in frames.old slots.now.table.now)
         frames.new writer) }
     ensures enough { IfOk result (λ writer.
-        all_pages page.now + 1026 ≤ length (free_in frames.old slots.now.table.now)) }
+        all_pages page.now + SPARE_SLOTS ≤ length (free_in frames.old slots.now.table.now)) }
     ensures too_few { IfErr result (λ why. why ≡ stop.NoSlots (length (free_in frames.old slots.now.table.now))
-        (all_pages page.now + 1026)) }
-    ensures fewer { IfErr result (λ why. length (free_in frames.old slots.now.table.now) < all_pages page.now + 1026) }
+        (all_pages page.now + SPARE_SLOTS)) }
+    ensures fewer { IfErr result (λ why. length (free_in frames.old slots.now.table.now) < all_pages page.now +
+        SPARE_SLOTS) }
 
     ensures kept { KeepsSlots slots.now.table.now frames.old frames.new runs.old runs.new }
 {
@@ -197,7 +196,8 @@ fn map_follows(step: WriteStep) -> bool
     ensures { result ≡ is_map_next step }
 {
     match step {
-        WriteStep::More { k, of } => k % 512 == 511 || (k < of && of - k == 1),
+        WriteStep::More { k, of } => k % BLOCKS_PER_MAP == MAP_PAGE_ENTRIES
+            || (k < of && of - k == 1),
         WriteStep::Done => false,
         WriteStep::Fault => false,
     }

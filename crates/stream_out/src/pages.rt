@@ -3,6 +3,7 @@ ghost use Rattle.definitions.specs.NumberPages.{meta_of};
 ghost use Rattle.stream_out.specs.Pages.{info_over, stream_over};
 
 use crate::cursor::{Cursor, hand_out};
+use definitions::WORDS_PER_PAGE;
 use frame_arena::Frames;
 use frame_sets::Bitmap;
 use frame_sets::packing::pack;
@@ -10,14 +11,11 @@ use image_format::info::{Info, encode};
 use machine::Hardware;
 use page_core::Page;
 
-/// The numbers that a number page holds.
-const NUMBERS: u32 = 512;
-
 /// Returns how many pages come before the data pages: the info page and the number pages of `n` page frames.
 pub fn head_pages(n: u32) -> u32
     ensures { result ≡ meta_of n + 1 }
 {
-    n.div_ceil(NUMBERS) + 1
+    n.div_ceil(WORDS_PER_PAGE) + 1
 }
 
 /// Returns what the info page says.

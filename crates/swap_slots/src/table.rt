@@ -4,6 +4,7 @@ ghost use Rattle.definitions.specs.Tables.{entry_at, with_entry, with_entries};
 ghost use Rattle.swap_slots.specs.Entries.{word_of, entry_of_word};
 
 use crate::{FreeRuns, SlotEntry};
+use definitions::ENTRIES_PER_FRAME;
 use frame_arena::Frames;
 
 /// The table of the slots of a swap area, in page frames: a word of 4 bytes for each slot's entry, which is 0 if the
@@ -105,13 +106,16 @@ impl SlotTable {
     fn place(&self, frames: &Frames, slot: u32) -> (u32, usize)
         requires slot { slot < self.now.slots }
         requires table { LiesIn frames.now self.now }
-        ensures frame { result.0 ≡ self.now.first + slot / 1024 }
+        ensures frame { result.0 ≡ self.now.first + slot / ENTRIES_PER_FRAME }
         ensures inside { result.0 < length frames.now }
-        ensures offset { result.1 ≡ 4 * (slot % 1024) }
+        ensures offset { result.1 ≡ 4 * (slot % ENTRIES_PER_FRAME) }
         ensures pages { All IsPage frames.now }
     {
         // The page frames of the table are below the count, so their numbers fit.
         let _ = frames.len();
-        (self.first + slot / 1024, 4 * (slot % 1024) as usize)
+        (
+            self.first + slot / ENTRIES_PER_FRAME,
+            4 * (slot % ENTRIES_PER_FRAME) as usize,
+        )
     }
 }

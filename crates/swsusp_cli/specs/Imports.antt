@@ -33,6 +33,7 @@ use Rattle.swsusp_cli.specs.declared.importing.ImportStop.{ImportStop}
 use Rattle.swsusp_cli.specs.declared.importing.ImportStop.TheVariants.{Source, Session}
 use Rattle.command_kit.specs.declared.status.Status.{Status}
 use Rattle.command_kit.specs.declared.status.Status.TheVariants.{Done, Refused, Input, Stream, Device}
+use Rattle.definitions.specs.declared.counts.TheConstants.{SPARE_SLOTS}
 
 -- How often an import calls the disk.
 
@@ -145,7 +146,7 @@ pub record IsImported (n : ℕ) (area : Area) (free bs : List ℕ) (left left' :
   pub over : IsUsedUp left'
   pub stream : IsStream bs
   pub pages : n ≡ image_pages bs
-  pub enough : all_pages bs + 1026 ≤ length free
+  pub enough : all_pages bs + SPARE_SLOTS ≤ length free
   pub content : Changes (Stores area free bs) d.content d'.content
   pub called : IsCalledAtMost (7 + 3 * (length bs / 4096)) d d'
 

@@ -7,13 +7,11 @@ ghost use Rattle.protocol_laws.specs.Rows.{TellsNewFault};
 
 use crate::World;
 use crate::world::Core;
+use definitions::ENTRIES_PER_FRAME;
 use frame_arena::Frames;
 use frame_table::shrink;
 use machine::Hardware;
 use plain_machine::Reply;
-
-/// The number of entries, of 4 bytes each, in a page frame of a table.
-const ENTRIES: u32 = 1024;
 
 // Dropping cached page frames, so that an image becomes as small as is wanted (own policy; in Linux
 // hibernate_preallocate_memory, kernel/power/snapshot.c).
@@ -80,8 +78,8 @@ fn drop_of(frames: &mut Frames, hw: &Hardware, want: u64) -> (u32, u32)
     let _ = frames.len();
     let zones = hw.zones();
     let tables = [
-        (hw.frame_table(), zones.top().div_ceil(ENTRIES)),
-        (hw.slot_table(), hw.slots().div_ceil(ENTRIES)),
+        (hw.frame_table(), zones.top().div_ceil(ENTRIES_PER_FRAME)),
+        (hw.slot_table(), hw.slots().div_ceil(ENTRIES_PER_FRAME)),
     ];
     shrink(frames, zones, hw.frame_table(), &tables, want)
 }

@@ -1,20 +1,15 @@
 ghost use Rattle.std.specs.Prelude.{◌≡◌, ◌+◌, ◌≤◌, ◌++◌, length};
-ghost use Rattle.definitions.specs.NumberPages.{meta_of};
 ghost use Rattle.definitions.specs.Zones.{top};
 ghost use Rattle.dump_tools.specs.Facts.{frame_facts, image_facts, images_facts, owned_frames, owned_slots, slot_facts};
 
 use crate::facts::Facts;
 use crate::facts::counting::{Kind, count_frames, count_free_frames, count_slots};
 use crate::facts::fact::Fact;
+use definitions::{SPARE_FRAMES, SPARE_SLOTS};
 use machine::Dump;
 use page_core::Format;
+use plain_machine::image_pages;
 use swap_slots::SlotEntry;
-
-/// The number of page frames that a hibernation leaves free besides its copies (PAGES_FOR_IO, and one more).
-const SPARE_FRAMES: u32 = 1025;
-
-/// The number of slots that a hibernation leaves free besides its pages: as many, and one for the first map.
-const SPARE_SLOTS: u32 = 1026;
 
 /// Adds what a dump says of page frames.
 pub(crate) fn add_frames(facts: &mut Facts, dump: &Dump)
@@ -97,19 +92,9 @@ fn add_image(facts: &mut Facts, format: Format, n: u32, d: u32)
     ensures added { facts.new ≡ facts.old ++ image_facts format n d }
     ensures len { length facts.new ≡ length facts.old + 2 }
 {
-    let pages = pages_of(n, d);
+    let pages = image_pages(n, d);
     facts.add_all(&[
         Fact::Image(format, n, d, pages),
         Fact::NeededSlots(format, pages + SPARE_SLOTS),
     ]);
-}
-
-/// Returns how many pages a stream has with the numbers of `n` page frames and the pages of `d`.
-fn pages_of(n: u32, d: u32) -> u32
-    requires few_saved { n ≤ 65536 }
-    requires few_with_data { d ≤ 65536 }
-    ensures pages { result ≡ d + meta_of n + 1 }
-    ensures few { result ≤ 65665 }
-{
-    d + n.div_ceil(512) + 1
 }

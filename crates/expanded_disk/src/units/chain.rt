@@ -3,6 +3,7 @@ ghost use Rattle.definitions.specs.Disk.{Content};
 ghost use Rattle.expanded_disk.specs.Names.{found_map};
 
 use crate::units::{Source, Walks};
+use definitions::MAP_PAGE_ENTRIES;
 use image_check::{Finding, Place};
 use image_walk::{BlockFault, Limits, Visit, Walker};
 use overlay_disk::Original;
@@ -10,7 +11,7 @@ use page_core::{NoMemory, Page};
 use std::alloc::Global;
 
 /// How many entries a map page has (MAP_PAGE_ENTRIES).
-const ENTRIES: u64 = 511;
+const ENTRIES: u64 = MAP_PAGE_ENTRIES as u64;
 
 /// What was read.
 #[derive(Clone, Copy)]

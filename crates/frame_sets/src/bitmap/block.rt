@@ -2,11 +2,12 @@ ghost use Rattle.std.specs.Prelude.{◌≡◌, ℕ, ◌+◌, ◌-◌, ◌*◌, �
 ghost use Rattle.std.specs.Prelude.{All, length, vec_len, min};
 ghost use Rattle.frame_sets.specs.Bits.{bit_of, AllClear, IsFirstBit, ChangesBit, IsEmptyBlock, HasFirstBits};
 
+use definitions::WORDS_PER_PAGE;
 use page_core::NoMemory;
 use std::alloc::Global;
 
 /// The words of a block: 32768 bits, one for each of its page frames.
-pub const WORDS: usize = 512;
+pub const WORDS: usize = WORDS_PER_PAGE as usize;
 
 /// Returns whether bit `k` is 1.
 pub fn has_bit(block: &[u64; WORDS], k: usize) -> bool

@@ -6,13 +6,8 @@ ghost use Rattle.frame_sets.specs.FrameSet.{IsFrameSet};
 ghost use Rattle.frame_sets.specs.Places.{members_in, marked_number, count_below, IsSpan, IsWord};
 
 use crate::Bitmap;
+use definitions::WORDS_PER_PAGE;
 use page_core::Page;
-
-/// The numbers of a page.
-const NUMBERS: u32 = 512;
-
-/// The words of a block of a set.
-const WORDS: u32 = 512;
 
 /// The word after the last number if its page isn't full (BM_END_OF_MAP).
 const END: u64 = u64::MAX;
@@ -26,15 +21,15 @@ pub fn pack(origs: &Bitmap, zeros: Option<&Bitmap>, k: u32, page: &mut Page)
     ensures { page.new ≡ number_page (marked_numbers origs.now.members (members_in (option_copied zeros.entry))) k }
 {
     let len = origs.len();
-    let first = NUMBERS * k;
-    let count = NUMBERS.min(len - first);
+    let first = WORDS_PER_PAGE * k;
+    let count = WORDS_PER_PAGE.min(len - first);
     let mut members = origs.iter_from(behind(origs, first));
     *page = Page::zero();
     for i in 0..count {
         let p = members.next().unwrap();
         page.set_word(i as usize, marked(p, zeros));
     }
-    if count < NUMBERS {
+    if count < WORDS_PER_PAGE {
         page.set_word(count as usize, END);
     }
 }
@@ -69,7 +64,7 @@ fn behind(set: &Bitmap, count: u32) -> u32
 {
     let mut from = 0;
     let mut left = count;
-    for w in 0..WORDS * set.blocks() {
+    for w in 0..WORDS_PER_PAGE * set.blocks() {
         let word = word_of(set, w);
         let ones = word.count_ones();
         if left < ones {
@@ -86,10 +81,10 @@ fn behind(set: &Bitmap, count: u32) -> u32
 /// Returns a word of a set. The words of all blocks are numbered in order from 0.
 fn word_of(set: &Bitmap, w: u32) -> u64
     requires set { IsFrameSet set.now }
-    requires within { w < 512 * length (blocks set.now.zones) }
+    requires within { w < WORDS_PER_PAGE * length (blocks set.now.zones) }
     ensures { IsWord set.now w result }
 {
-    set.words(w / WORDS)[(w % WORDS) as usize]
+    set.words(w / WORDS_PER_PAGE)[(w % WORDS_PER_PAGE) as usize]
 }
 
 /// Returns a number with exactly `more` more members below it than `from` has.

@@ -3,12 +3,10 @@ ghost use Rattle.std.specs.Prelude.{OnOk, OnErr, IfOk, IsSome, IfSome, Option};
 ghost use Rattle.definitions.specs.Bytes.{word};
 
 use crate::{Bitmap, Zones};
+use definitions::WORDS_PER_PAGE;
 use page_core::{Format, Page};
 use std::marker::Model;
 use thiserror::Error;
-
-/// The numbers that fill a page.
-const PAGE_NUMBERS: u32 = 512;
 
 /// The word after the last number if its page isn't full (BM_END_OF_MAP).
 const END: u64 = u64::MAX;
@@ -98,7 +96,7 @@ impl Unpack {
         ensures same_origs { OnErr result (origs.new ≡ origs.old) }
         ensures same_zeros { OnErr result (zeros.new ≡ zeros.old) }
     {
-        let count = (self.n - self.read).min(PAGE_NUMBERS);
+        let count = (self.n - self.read).min(WORDS_PER_PAGE);
         let last = self.check(page, zones, count)?;
         self.check_end(page)?;
         self.list(page, count, origs, zeros);
@@ -129,7 +127,7 @@ impl Unpack {
 
     /// Tests the first `count` numbers of a page, and returns the last one.
     fn check(&self, page: &Page, zones: &Zones, count: u32) -> Result<Option<u32>, PfnFault>
-        requires { count ≤ 512 }
+        requires { count ≤ WORDS_PER_PAGE }
         ensures ok { IsOk result ↔ (first_below (fault_in zones.now self.now page.now) count ≡ None) }
         ensures fault { (fault : PfnFault) →
             (result ≡ Err fault) ↔ (first_below (fault_in zones.now self.now page.now) count ≡ Some fault) }
@@ -149,7 +147,7 @@ impl Unpack {
         ensures fault { (fault : PfnFault) → (result ≡ Err fault) ↔ (end_fault self.now page.now ≡ Some fault) }
     {
         let left = self.n.saturating_sub(self.read);
-        if left >= PAGE_NUMBERS {
+        if left >= WORDS_PER_PAGE {
             return Ok(());
         }
         let found = page.word(left as usize);
@@ -161,7 +159,7 @@ impl Unpack {
 
     /// Puts the first `count` numbers of a page into the sets.
     fn list(&self, page: &Page, count: u32, origs: &mut Bitmap, zeros: &mut Bitmap)
-        requires few { count ≤ 512 }
+        requires few { count ≤ WORDS_PER_PAGE }
         requires sound { first_below (fault_in origs.old.zones self.now page.now) count ≡ None }
         requires same_zones { zeros.old.zones ≡ origs.old.zones }
         requires listed { IsUpTo self.now.last origs.old.members }

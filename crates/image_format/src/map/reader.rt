@@ -1,5 +1,6 @@
 ghost use Rattle.std.specs.Prelude.{◌≡◌, ◌<◌, ◌≤◌, ◌↔◌, Err, IsOk, IfOk, IfErr, IfSome, IsSome};
 ghost use Rattle.definitions.specs.SwapMap.{map_entry, map_link};
+ghost use Rattle.definitions.specs.declared.counts.TheConstants.{MAP_PAGE_ENTRIES};
 
 use crate::map::ENTRIES;
 use page_core::Page;
@@ -46,7 +47,7 @@ impl MapReader {
 
     /// Returns entry k: the block of a page of the image.
     pub fn entry(&self, k: u32, limit: u32) -> Result<u32, ChainFault>
-        requires { k < 511 }
+        requires { k < MAP_PAGE_ENTRIES }
         ensures block { IfOk result (λ block. block ≡ map_entry self.now.page k) }
         ensures fits { IsOk result ↔ ((0 < map_entry self.now.page k) × (map_entry self.now.page k ≤ limit)) }
         ensures fault { IfErr result (λ fault. fault ≡ ChainFault.BadBlock (map_entry self.now.page k)) }

@@ -1,5 +1,6 @@
 ghost use Rattle.std.specs.Prelude.{◌≡◌, ◌<◌, ◌≤◌, ◌↔◌, [], ◌∷◌, ◌++◌, length};
 ghost use Rattle.definitions.specs.SwapMap.{map_page};
+ghost use Rattle.definitions.specs.declared.counts.TheConstants.{MAP_PAGE_ENTRIES};
 
 use crate::map::ENTRIES;
 use page_core::Page;
@@ -46,11 +47,11 @@ impl MapWriter {
 
     /// Adds an entry: the block of the image's next page.
     pub fn push(&mut self, block: u64) -> Pushed
-        requires { length self.old.entries < 511 }
+        requires { length self.old.entries < MAP_PAGE_ENTRIES }
         ensures entries { self.new.entries ≡ self.old.entries ++ block ∷ [] }
         ensures link { self.new.link ≡ self.old.link }
-        ensures full { (result ≡ Pushed.Full) ↔ (length self.new.entries ≡ 511) }
-        ensures room { (result ≡ Pushed.Room) ↔ (length self.new.entries < 511) }
+        ensures full { (result ≡ Pushed.Full) ↔ (length self.new.entries ≡ MAP_PAGE_ENTRIES) }
+        ensures room { (result ≡ Pushed.Room) ↔ (length self.new.entries < MAP_PAGE_ENTRIES) }
     {
         self.page.set_word(self.count, block);
         self.count += 1;
@@ -68,7 +69,7 @@ impl MapWriter {
     /// Returns the page as it stands.
     pub fn page(&self) -> &Page
         ensures page { result.now ≡ map_page self.now.entries self.now.link }
-        ensures room { length self.now.entries ≤ 511 }
+        ensures room { length self.now.entries ≤ MAP_PAGE_ENTRIES }
     {
         &self.page
     }
@@ -76,9 +77,9 @@ impl MapWriter {
 
 /// Returns whether a page with `count` entries has room for more.
 fn room_after(count: usize) -> Pushed
-    requires { count ≤ 511 }
-    ensures full { (result ≡ Pushed.Full) ↔ (count ≡ 511) }
-    ensures room { (result ≡ Pushed.Room) ↔ (count < 511) }
+    requires { count ≤ MAP_PAGE_ENTRIES }
+    ensures full { (result ≡ Pushed.Full) ↔ (count ≡ MAP_PAGE_ENTRIES) }
+    ensures room { (result ≡ Pushed.Room) ↔ (count < MAP_PAGE_ENTRIES) }
 {
     if count == ENTRIES {
         return Pushed::Full;

@@ -1,8 +1,9 @@
 ghost use Rattle.std.specs.Prelude.{◌≡◌, ◌≤◌, ℕ, List, ◌∷◌};
 ghost use Rattle.image_pages.specs.Turns.{Ends, IsFull};
 
-use crate::frames::numbers::{NUMBERS, NextWord, Numbers, OpenedNumbers};
+use crate::frames::numbers::{NextWord, Numbers, OpenedNumbers};
 use crate::{Pages, read_ahead, read_page};
+use definitions::number_page_count;
 use image_check::Report;
 use image_format::info::Info;
 use page_core::{NoMemory, Page};
@@ -73,7 +74,7 @@ impl Frames {
             OpenedNumbers::Open(numbers) => numbers,
         };
         let mut pages = numbers.pages_ahead()?;
-        let number_pages = numbers.count().div_ceil(NUMBERS);
+        let number_pages = number_page_count(numbers.count());
         let mut passed = Page::zero();
         if !read_ahead(&mut pages, disk, report, number_pages, &mut passed) {
             return Ok(Opened::Refused);
@@ -92,7 +93,7 @@ impl Frames {
         let Some(counts) = pages.counts() else {
             unreachable!()
         };
-        let left = counts.pages - numbers.count().div_ceil(NUMBERS) - 1;
+        let left = counts.pages - number_page_count(numbers.count()) - 1;
         Frames {
             numbers,
             pages,

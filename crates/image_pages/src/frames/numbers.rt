@@ -4,6 +4,7 @@ ghost use Rattle.image_pages.specs.OpensFrames.{OpensNumbers};
 ghost use Rattle.image_pages.specs.Turns.{IsAtNumber, Turns};
 
 use crate::{Opened, Pages, frame_of, has_page, read_ahead, read_page};
+use definitions::{WORDS_PER_PAGE, number_page_count};
 use image_check::{Counts, Report};
 use image_format::info::{Info, decode};
 use page_core::{NoMemory, Page};
@@ -11,7 +12,7 @@ use sector_disk::Disk;
 use std::alloc::Global;
 
 /// How many numbers a page of page frame numbers has.
-pub(crate) const NUMBERS: u64 = 512;
+const NUMBERS: u64 = WORDS_PER_PAGE as u64;
 
 /// The numbers of the saved page frames of an image, in ascending order. Only its number pages are read, up to the
 /// first named block that has findings. It takes memory of one bit for each block of the disk.
@@ -175,7 +176,7 @@ impl Numbers {
         ensures orders { D.orders disk.new ≡ D.orders disk.old }
         ensures blocks { D.block_count disk.new ≡ D.block_count disk.old }
     {
-        let left = self.count.div_ceil(NUMBERS) - self.given.div_ceil(NUMBERS);
+        let left = number_page_count(self.count) - number_page_count(self.given);
         if read_ahead(&mut self.pages, disk, report, left, &mut self.listed) {
             unreachable!()
         }

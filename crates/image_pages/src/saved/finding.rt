@@ -6,13 +6,14 @@ ghost use Rattle.image_pages.specs.Found.{Finds};
 
 use crate::saved::words::{data_words, find_word, has_page};
 use crate::{Next, Opened, Pages};
+use definitions::{WORDS_PER_PAGE, number_page_count};
 use image_check::{Counts, Report};
 use page_core::{Format, NoMemory, Page};
 use sector_disk::Disk;
 use std::alloc::Global;
 
 /// How many numbers a page of page frame numbers has.
-const NUMBERS: u64 = 512;
+const NUMBERS: u64 = WORDS_PER_PAGE as u64;
 
 /// The result of looking for the page of a page frame.
 #[derive(Clone, Copy, Debug, PartialEq, Eq)]
@@ -151,7 +152,7 @@ fn find_number<D: Disk, R: Report>(
 {
     let format = pages.format();
     let image_pages = counts.image_pages;
-    let number_pages = image_pages.div_ceil(NUMBERS);
+    let number_pages = number_page_count(image_pages);
     let mut earlier = 0;
     for k in 0..number_pages {
         if !read_page(pages, disk, report, page) {
@@ -168,9 +169,9 @@ fn find_number<D: Disk, R: Report>(
 
 /// Returns how many of the numbers that are left are on a page.
 fn count_on_page(left: u64) -> u64
-    ensures few { left ≤ 512 → result ≡ left }
-    ensures full { 512 ≤ left → result ≡ 512 }
-    ensures page { result ≤ 512 }
+    ensures few { left ≤ WORDS_PER_PAGE → result ≡ left }
+    ensures full { WORDS_PER_PAGE ≤ left → result ≡ WORDS_PER_PAGE }
+    ensures page { result ≤ WORDS_PER_PAGE }
     ensures left { result ≤ left }
 {
     if left < NUMBERS { left } else { NUMBERS }
@@ -180,7 +181,7 @@ fn count_on_page(left: u64) -> u64
 /// before it have `earlier` data pages.
 /// precede.
 fn search_at(page: &Page, format: Format, i: u64, lists: u64, earlier: u64) -> Search
-    requires word { i < 512 }
+    requires word { i < WORDS_PER_PAGE }
     requires few { earlier + i + 1 < 2 ^ 64 }
     ensures { SeeksAt format page.now i lists earlier result }
 {

@@ -4,6 +4,7 @@ ghost use Rattle.definitions.specs.Bytes.{word};
 ghost use Rattle.image_check.specs.Numbers.{frame_of};
 ghost use Rattle.image_pages.specs.Ahead.{data_words};
 ghost use Rattle.image_pages.specs.Saved.{has_page};
+ghost use Rattle.definitions.specs.declared.counts.TheConstants.{WORDS_PER_PAGE};
 
 use page_core::{Format, Page};
 
@@ -32,7 +33,7 @@ pub fn has_page(format: Format, word: u64) -> bool
 
 /// Returns the index of the word that has page frame number `number`, among the first `count`, at most 512, of a page.
 pub(crate) fn find_word(page: &Page, format: Format, count: u64, number: u64) -> Option<u64>
-    requires { count ≤ 512 }
+    requires { count ≤ WORDS_PER_PAGE }
     ensures found { IfSome result (λ i. (i < count) × (frame_of format (word page.now i) ≡ number)) }
     ensures none { IfNone result ((i : ℕ) → i < count → frame_of format (word page.now i) ≢ number) }
 {
@@ -46,7 +47,7 @@ pub(crate) fn find_word(page: &Page, format: Format, count: u64, number: u64) ->
 
 /// Returns how many of the first `count` words of a page, at most 512, have a data page.
 pub(crate) fn data_words(page: &Page, format: Format, count: u64) -> u64
-    requires { count ≤ 512 }
+    requires { count ≤ WORDS_PER_PAGE }
     ensures dense { result ≡ data_words format page.now count }
     ensures few { result ≤ count }
 {

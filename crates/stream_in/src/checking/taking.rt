@@ -7,6 +7,7 @@ ghost use Rattle.stream_in.specs.declared.checking.fault.StreamFault.{StreamFaul
 
 use crate::checking::{Kind, StreamFault};
 use byteorder::{ByteOrder, LittleEndian};
+use definitions::{WORDS_PER_PAGE, number_page_count};
 
 /// The bytes of a page.
 pub const PAGE: u64 = 4096;
@@ -18,7 +19,7 @@ const WORD: u64 = 8;
 const FRAMES: u64 = 65536;
 
 /// The frame numbers that fill a page.
-const PAGE_NUMBERS: u64 = 512;
+const PAGE_NUMBERS: u64 = WORDS_PER_PAGE as u64;
 
 /// The word after the last number if that doesn't fill its page (BM_END_OF_MAP).
 const END: u64 = u64::MAX;
@@ -155,7 +156,7 @@ impl Taking {
         if n == 0 || n > FRAMES {
             return Err(counts);
         }
-        if self.pages != n + n.div_ceil(PAGE_NUMBERS) + 1 {
+        if self.pages != n + number_page_count(n) + 1 {
             return Err(counts);
         }
         Ok(Taking {

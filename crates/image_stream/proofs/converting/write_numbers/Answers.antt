@@ -15,7 +15,7 @@ pub read_page-requires : goal.read_page-requires
 read_page-requires g c =
     let (header, (info, at)) = c.requires in
     let s = c.loop-k.invariant.so_far header info at in
-    let lt : c.loop-k.k < meta_of c.args.count = omega (arith, c.loop-k-test.true, c.div_ceil-number_pages.ensures) in
+    let lt : c.loop-k.k < meta_of c.args.count = omega (arith, c.loop-k-test.true, c.number_page_count-number_pages.ensures) in
     (header, (info ∷ s.listed, (s.stands, more_lists info s.listed c.args.count c.loop-k.k at.room s.size lt)))
 
 pub loop-k-init : goal.loop-k-init
@@ -36,7 +36,7 @@ returns-then-not-read_page-clause-written g c = λ header info at.
     let s = i.so_far header info at in
     let content = g.D.Disk.content c.args.disk.now in
     let blocks = g.D.Disk.block_count c.args.disk.now in
-    let lt : c.loop-k.k < meta_of c.args.count = omega (arith, c.loop-k-test.true, c.div_ceil-number_pages.ensures) in
+    let lt : c.loop-k.k < meta_of c.args.count = omega (arith, c.loop-k-test.true, c.number_page_count-number_pages.ensures) in
     lists_refused content blocks header (g.D.Disk.faults c.args.disk.now) (g.D.Disk.faults c.read_page.new.disk) (g.R.Report.told c.args.report.now) (g.R.Report.told c.read_page.new.report) c.loop-k.pages info c.args.count c.loop-k.k (g.S.Sink.taken c.args.out.now) (g.S.Sink.taken c.loop-k.out) (g.D.Disk.content c.loop-k.disk) (g.D.Disk.block_count c.loop-k.disk) s (omega (arith, lt))
     (refused_since (g.D.Disk.content c.loop-k.disk) content (g.D.Disk.block_count c.loop-k.disk) blocks header (g.D.Disk.faults c.args.disk.now) (g.D.Disk.faults c.loop-k.disk) (g.D.Disk.faults c.read_page.new.disk) (g.R.Report.told c.args.report.now) (g.R.Report.told c.loop-k.report) (g.R.Report.told c.read_page.new.report) (info ∷ s.listed) i.content i.blocks i.told i.faults
     (c.if-not-read_page.ensures.gives header (info ∷ s.listed) s.stands (more_lists info s.listed c.args.count c.loop-k.k at.room s.size lt)))
@@ -53,7 +53,7 @@ returns-in_err-put_all-clause-stopped g c = λ header info at.
     let mid = g.S.Sink.taken c.loop-k.out in
     let last = g.S.Sink.taken c.put_all.new.sink in
     let page = c.read_page.new.page in
-    let lt : c.loop-k.k < meta_of c.args.count = omega (arith, c.loop-k-test.true, c.div_ceil-number_pages.ensures) in
+    let lt : c.loop-k.k < meta_of c.args.count = omega (arith, c.loop-k-test.true, c.number_page_count-number_pages.ensures) in
     let gives = c.if-not-read_page.ensures.gives header (info ∷ s.listed) s.stands (more_lists info s.listed c.args.count c.loop-k.k at.room s.size lt) in
     on_err_any c.from_residual.result (IsListFront content blocks header info c.args.count first last)
     (front_since held content many blocks header info c.args.count first last i.content i.blocks
@@ -65,7 +65,7 @@ returns-in_err-put_all-clause-untold g c =
     let i = c.loop-k.invariant in
     let (header, (info, at)) = c.requires in
     let s = i.so_far header info at in
-    let lt : c.loop-k.k < meta_of c.args.count = omega (arith, c.loop-k-test.true, c.div_ceil-number_pages.ensures) in
+    let lt : c.loop-k.k < meta_of c.args.count = omega (arith, c.loop-k-test.true, c.number_page_count-number_pages.ensures) in
     on_err_any c.from_residual.result (g.R.Report.told c.read_page.new.report ≡ g.R.Report.told c.args.report.now)
     ((c.if-not-read_page.ensures.gives header (info ∷ s.listed) s.stands (more_lists info s.listed c.args.count c.loop-k.k at.room s.size lt)).0 ∙ i.told)
 
@@ -79,7 +79,7 @@ loop-k-preserved g c =
     let mid = g.S.Sink.taken c.loop-k.out in
     let last = g.S.Sink.taken c.put_all.new.sink in
     let page = c.read_page.new.page in
-    let lt : k < meta_of c.args.count = omega (arith, c.loop-k-test.true, c.div_ceil-number_pages.ensures) in
+    let lt : k < meta_of c.args.count = omega (arith, c.loop-k-test.true, c.number_page_count-number_pages.ensures) in
     let gives = λ (header : ℕ) (info : List ℕ) (at : IsAtLists (g.D.Disk.content c.args.disk.now) (g.D.Disk.block_count c.args.disk.now) header c.args.pages.now info c.args.count).
     let s = i.so_far header info at in
     c.if-not-read_page.ensures.gives header (info ∷ s.listed) s.stands (more_lists info s.listed c.args.count k at.room s.size lt) in
@@ -101,7 +101,7 @@ loop-k-preserved g c =
 pub returns-clause-written : goal.returns-clause-written
 returns-clause-written g c = λ header info at.
     let i = c.loop-k.invariant in
-    let all : c.loop-k.k ≡ meta_of c.args.count = omega (arith, c.loop-k-test.false, c.loop-k.auto.k-end, c.div_ceil-number_pages.ensures) in
+    let all : c.loop-k.k ≡ meta_of c.args.count = omega (arith, c.loop-k-test.false, c.loop-k.auto.k-end, c.number_page_count-number_pages.ensures) in
     let first = g.S.Sink.taken c.args.out.now in
     let last = g.S.Sink.taken c.loop-k.out in (
       i.told,

@@ -46,8 +46,8 @@ loop-i-preserved c =
           ∙ page_more members zeros k i c.unwrap-p.result here member;
     }
 
-pub returns-then-count-lt-NUMBERS : goal.returns-then-count-lt-NUMBERS
-returns-then-count-lt-NUMBERS c =
+pub returns-then-count-lt-WORDS_PER_PAGE : goal.returns-then-count-lt-WORDS_PER_PAGE
+returns-then-count-lt-WORDS_PER_PAGE c =
     let members = c.args.origs.now.members in
     let zeros = members_in (option_copied c.args.zeros) in
     let k = c.args.k in
@@ -55,25 +55,25 @@ returns-then-count-lt-NUMBERS c =
     let n = c.len-len.ensures.len in
     let size = length-marked members zeros in
     let room = c.requires in
-    let short = c.if-count-lt-NUMBERS.true in
+    let short = c.if-count-lt-WORDS_PER_PAGE.true in
     let end = c.loop-i-test.false in
     let all = c.loop-i.auto.i-end in
     let last : i ≡ length members - 512 * k = omega arith in
     let same : c.min-count.result ≡ i = omega arith in
-    c.set_word-then-count-lt-NUMBERS.ensures.set
+    c.set_word-then-count-lt-WORDS_PER_PAGE.ensures.set
     ∙ ap (λ page. with_word page c.min-count.result end_value) c.loop-i.invariant.page
     ∙ ap (λ (j : ℕ). with_word (page_of_words (take i (words_of_page (marked_numbers members zeros) k))) j end_value) same
     ∙ page_ended (marked_numbers members zeros) k i (omega arith) (omega arith) (omega arith)
 
-pub returns-else-count-lt-NUMBERS : goal.returns-else-count-lt-NUMBERS
-returns-else-count-lt-NUMBERS c =
+pub returns-else-count-lt-WORDS_PER_PAGE : goal.returns-else-count-lt-WORDS_PER_PAGE
+returns-else-count-lt-WORDS_PER_PAGE c =
     let members = c.args.origs.now.members in
     let zeros = members_in (option_copied c.args.zeros) in
     let k = c.args.k in
     let i = c.loop-i.i in
     let n = c.len-len.ensures.len in
     let size = length-marked members zeros in
-    let full = c.if-count-lt-NUMBERS.false in
+    let full = c.if-count-lt-WORDS_PER_PAGE.false in
     let end = c.loop-i-test.false in
     let all = c.loop-i.auto.i-end in
     let last : i ≡ 512 = omega arith in

@@ -52,11 +52,20 @@ count-requires-clause-table c =
 pub free_count-free-requires-clause-table : goal.free_count-free-requires-clause-table
 free_count-free-requires-clause-table c = subst (LiesIn c.args.frames.now) (sym c.slot_table-slots.ensures.table) (slot_table_lies c.args.machine.now.hw c.args.frames.now c.zones-zones.ensures.hardware c.requires.ready.run.size)
 
-pub pages_of-requires-clause-saved : goal.pages_of-requires-clause-saved
-pages_of-requires-clause-saved c =
+pub image_pages-requires-clause-few_saved : goal.image_pages-requires-clause-few_saved
+image_pages-requires-clause-few_saved c =
     let saved : c.in-Ok.counts.n ≡ length (saveable c.args.machine.now.hw c.args.frames.now) =
     at_hardware c.args.machine.now.hw (λ zs k. c.in-Ok.counts.n ≡ length (saveable_frames zs k c.args.frames.now)) c.zones-zones.result.now c.frame_table-table.result c.zones-zones.ensures.zones c.frame_table-table.ensures.frame (ap (λ (x : Counts). x.n) c.in-Ok.ensures.counts) in
     let few = saveable_few c.args.machine.now.hw c.args.frames.now c.zones-zones.ensures.hardware.zones in
+    omega arith
+
+pub image_pages-requires-clause-few_with_data : goal.image_pages-requires-clause-few_with_data
+image_pages-requires-clause-few_with_data c =
+    let saved : c.in-Ok.counts.n ≡ length (saveable c.args.machine.now.hw c.args.frames.now) =
+    at_hardware c.args.machine.now.hw (λ zs k. c.in-Ok.counts.n ≡ length (saveable_frames zs k c.args.frames.now)) c.zones-zones.result.now c.frame_table-table.result c.zones-zones.ensures.zones c.frame_table-table.ensures.frame (ap (λ (x : Counts). x.n) c.in-Ok.ensures.counts) in
+    let few = saveable_few c.args.machine.now.hw c.args.frames.now c.zones-zones.ensures.hardware.zones in
+    let with_pages = ap (λ (x : Counts). x.d) c.in-Ok.ensures.counts in
+    let all = ap (λ (x : Counts). x.n) c.in-Ok.ensures.counts in
     omega arith
 
 pub overflow_add-need : goal.overflow_add-need
@@ -66,7 +75,7 @@ overflow_add-need c =
     let few = saveable_few c.args.machine.now.hw c.args.frames.now c.zones-zones.ensures.hardware.zones in
     let with_pages = ap (λ (x : Counts). x.d) c.in-Ok.ensures.counts in
     let all = ap (λ (x : Counts). x.n) c.in-Ok.ensures.counts in
-    let is : c.pages_of.result ≡ c.in-Ok.counts.d + meta_of c.in-Ok.counts.n + 1 = c.pages_of.ensures in
+    let is : c.image_pages.result ≡ c.in-Ok.counts.d + meta_of c.in-Ok.counts.n + 1 = c.image_pages.ensures.pages in
     omega arith
 
 pub returns-in-Err-count-clause-refused : goal.returns-in-Err-count-clause-refused
@@ -103,10 +112,10 @@ returns-then-free-need-clause-refused c =
     let hib : Hib = record c.args.self.now { snapshot = c.count.new.self } in
     let is = room c.args.machine.now c.args.frames.now hib c.in-Ok.counts c.args.format c.args.self.now.snapshot.zones c.zones-zones.result.now c.frame_table-table.result c.zones-zones.ensures.zones c.frame_table-table.ensures.frame c.in-Ok.ensures.sets c.in-Ok.ensures.counts (c.in-Ok.ensures.enough.0 refl) in
     let free : c.free_count-free.result ≡ length (free_in c.args.frames.now (slot_table_of c.args.machine.now.hw)) = c.free_count-free.ensures ∙ ap (λ (t : SlotTable). length (free_in c.args.frames.now t)) c.slot_table-slots.ensures.table in
-    let lt : c.free_count-free.result < c.pages_of.result + 1026 = c.if-free-need.true in
-    let few : length (free_in c.args.frames.now (slot_table_of c.args.machine.now.hw)) < pages_of c.in-Ok.counts + 1026 = subst (λ (n : ℕ). n < pages_of c.in-Ok.counts + 1026) free (subst (λ (n : ℕ). c.free_count-free.result < n + 1026) c.pages_of.ensures lt) in
-    subst (λ (n : ℕ). IsRefused c.args.machine.now c.args.frames.now c.args.format (reply.NoSlots n (c.pages_of.result + 1026))) (sym free)
-    (subst (λ (n : ℕ). IsRefused c.args.machine.now c.args.frames.now c.args.format (reply.NoSlots (length (free_in c.args.frames.now (slot_table_of c.args.machine.now.hw))) (n + 1026))) (sym c.pages_of.ensures)
+    let lt : c.free_count-free.result < c.image_pages.result + 1026 = c.if-free-need.true in
+    let few : length (free_in c.args.frames.now (slot_table_of c.args.machine.now.hw)) < pages_of c.in-Ok.counts + 1026 = subst (λ (n : ℕ). n < pages_of c.in-Ok.counts + 1026) free (subst (λ (n : ℕ). c.free_count-free.result < n + 1026) c.image_pages.ensures.pages lt) in
+    subst (λ (n : ℕ). IsRefused c.args.machine.now c.args.frames.now c.args.format (reply.NoSlots n (c.image_pages.result + 1026))) (sym free)
+    (subst (λ (n : ℕ). IsRefused c.args.machine.now c.args.frames.now c.args.format (reply.NoSlots (length (free_in c.args.frames.now (slot_table_of c.args.machine.now.hw))) (n + 1026))) (sym c.image_pages.ensures.pages)
     (refused_no_slots c.args.machine.now c.args.frames.now c.args.format hib c.in-Ok.counts c.zones-zones.ensures.hardware (sym c.busy.ensures ∙ c.in_default.is) unmarked usable is.are is.format is.copies few))
 
 pub returns-clause-counted : goal.returns-clause-counted
@@ -116,7 +125,7 @@ returns-clause-counted c =
     let hib : Hib = record c.args.self.now { snapshot = c.count.new.self } in
     let is = room c.args.machine.now c.args.frames.now hib c.in-Ok.counts c.args.format c.args.self.now.snapshot.zones c.zones-zones.result.now c.frame_table-table.result c.zones-zones.ensures.zones c.frame_table-table.ensures.frame c.in-Ok.ensures.sets c.in-Ok.ensures.counts (c.in-Ok.ensures.enough.0 refl) in
     let free : c.free_count-free.result ≡ length (free_in c.args.frames.now (slot_table_of c.args.machine.now.hw)) = c.free_count-free.ensures ∙ ap (λ (t : SlotTable). length (free_in c.args.frames.now t)) c.slot_table-slots.ensures.table in
-    let le : c.pages_of.result + 1026 ≤ c.free_count-free.result = c.if-free-need.false in
+    let le : c.image_pages.result + 1026 ≤ c.free_count-free.result = c.if-free-need.false in
     record {
       idle = sym c.busy.ensures ∙ c.in_default.is;
       held = unmarked;
@@ -126,7 +135,7 @@ returns-clause-counted c =
       saved = is.are.saved;
       with_pages = is.are.with_pages;
       copies = is.copies;
-      slots = subst (λ (n : ℕ). pages_of c.in-Ok.counts + 1026 ≤ n) free (subst (λ (n : ℕ). n + 1026 ≤ c.free_count-free.result) c.pages_of.ensures le);
+      slots = subst (λ (n : ℕ). pages_of c.in-Ok.counts + 1026 ≤ n) free (subst (λ (n : ℕ). n + 1026 ≤ c.free_count-free.result) c.image_pages.ensures.pages le);
       reserved = c.requires.ready.run.reserved;
     }
 

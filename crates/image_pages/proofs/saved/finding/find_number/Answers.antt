@@ -18,7 +18,7 @@ pub read_page-requires : goal.read_page-requires
 read_page-requires g c =
     let (header, (info, has)) = c.requires in
     let s = c.loop-k.invariant.so_far header info has in
-    let lt : c.loop-k.k < meta_of c.args.counts.image_pages = omega (arith, c.loop-k-test.true, c.div_ceil-number_pages.ensures) in
+    let lt : c.loop-k.k < meta_of c.args.counts.image_pages = omega (arith, c.loop-k-test.true, c.number_page_count-number_pages.ensures) in
     (header, (info ∷ s.pages, (s.stands, wanted info s.pages c.args.counts c.loop-k.k (meta_of c.args.counts.image_pages) has.said has.room s.size lt)))
 
 pub loop-k-init : goal.loop-k-init
@@ -38,7 +38,7 @@ pub returns-then-not-read_page-clause-seeks : goal.returns-then-not-read_page-cl
 returns-then-not-read_page-clause-seeks g c = λ header info has.
     let i = c.loop-k.invariant in
     let s = i.so_far header info has in
-    let lt : c.loop-k.k < meta_of c.args.counts.image_pages = omega (arith, c.loop-k-test.true, c.div_ceil-number_pages.ensures) in
+    let lt : c.loop-k.k < meta_of c.args.counts.image_pages = omega (arith, c.loop-k-test.true, c.number_page_count-number_pages.ensures) in
     let more = wanted info s.pages c.args.counts c.loop-k.k (meta_of c.args.counts.image_pages) has.said has.room s.size lt in (
       info ∷ s.pages,
       refused_since (g.D.Disk.content c.loop-k.disk) (g.D.Disk.content c.args.disk.now) (g.D.Disk.block_count c.loop-k.disk) (g.D.Disk.block_count c.args.disk.now) header (g.D.Disk.faults c.args.disk.now) (g.D.Disk.faults c.loop-k.disk) (g.D.Disk.faults c.read_page.new.disk) (g.R.Report.told c.args.report.now) (g.R.Report.told c.loop-k.report) (g.R.Report.told c.read_page.new.report) (info ∷ s.pages) i.content i.blocks i.told i.faults
@@ -51,8 +51,8 @@ returns-in-Some-clause-seeks g c = λ header info has.
     let s = i.so_far header info has in
     let k = c.loop-k.k in
     let n = c.args.counts.image_pages in
-    let lt : k < meta_of n = omega (arith, c.loop-k-test.true, c.div_ceil-number_pages.ensures) in
-    let meta : c.div_ceil-number_pages.result ≡ meta_of n = omega (arith, c.div_ceil-number_pages.ensures) in
+    let lt : k < meta_of n = omega (arith, c.loop-k-test.true, c.number_page_count-number_pages.ensures) in
+    let meta : c.number_page_count-number_pages.result ≡ meta_of n = omega (arith, c.number_page_count-number_pages.ensures) in
     let more = wanted info s.pages c.args.counts k (meta_of n) has.said has.room s.size lt in
     let gives = c.if-not-read_page.ensures.gives header (info ∷ s.pages) s.stands more in
     let found = c.in-Some.ensures.found in
@@ -60,7 +60,7 @@ returns-in-Some-clause-seeks g c = λ header info has.
     let held = g.D.Disk.content c.args.disk.now in
     let blocks = g.D.Disk.block_count c.args.disk.now in
     subst (λ (f : Format). Seeks held blocks header (g.D.Disk.faults c.args.disk.now) (g.D.Disk.faults c.read_page.new.disk) (g.R.Report.told c.args.report.now) (g.R.Report.told c.read_page.new.report) f c.args.counts info c.args.frame c.read_page.new.pages c.search_at.result) c.format-format.ensures
-    (searched_found held blocks header (g.D.Disk.faults c.args.disk.now) (g.D.Disk.faults c.read_page.new.disk) (g.R.Report.told c.args.report.now) (g.R.Report.told c.read_page.new.report) c.read_page.new.pages c.format-format.result c.args.counts info page s.pages c.args.frame k c.in-Some.i (c.div_ceil-number_pages.result - k - 1) c.loop-k.earlier c.search_at.result
+    (searched_found held blocks header (g.D.Disk.faults c.args.disk.now) (g.D.Disk.faults c.read_page.new.disk) (g.R.Report.told c.args.report.now) (g.R.Report.told c.read_page.new.report) c.read_page.new.pages c.format-format.result c.args.counts info page s.pages c.args.frame k c.in-Some.i (c.number_page_count-number_pages.result - k - 1) c.loop-k.earlier c.search_at.result
     (gives.0 ∙ i.told)
     (stands_since (g.D.Disk.content c.loop-k.disk) held (g.D.Disk.block_count c.loop-k.disk) blocks header c.read_page.new.pages (info ∷ (s.pages ++ page ∷ [])) i.content i.blocks gives.1)
     s.size (omega (arith, found.0, c.count_on_page-count.ensures.left)) (omega (arith, found.0, c.count_on_page-count.ensures.page)) found.1 (omega (arith, meta, lt)) (omega arith) (s.counted (omega (arith, lt))) c.search_at.ensures)
@@ -72,7 +72,7 @@ loop-k-preserved g c =
     let n = c.args.counts.image_pages in
     let held = g.D.Disk.content c.loop-k.disk in
     let blocks = g.D.Disk.block_count c.loop-k.disk in
-    let lt : k < meta_of n = omega (arith, c.loop-k-test.true, c.div_ceil-number_pages.ensures) in
+    let lt : k < meta_of n = omega (arith, c.loop-k-test.true, c.number_page_count-number_pages.ensures) in
     let page = c.read_page.new.page in
     let gives = λ (header : ℕ) (info : List ℕ) (has : HasInfo (g.D.Disk.content c.args.disk.now) (g.D.Disk.block_count c.args.disk.now) header c.args.pages.now c.args.counts info).
     let s = i.so_far header info has in
@@ -99,7 +99,7 @@ returns-clause-seeks g c = λ header info has.
     let s = i.so_far header info has in
     let n = c.args.counts.image_pages in
     let size = s.size in
-    let all : c.loop-k.k ≡ meta_of n = omega (arith, c.loop-k-test.false, c.loop-k.auto.k-end, c.div_ceil-number_pages.ensures) in (
+    let all : c.loop-k.k ≡ meta_of n = omega (arith, c.loop-k-test.false, c.loop-k.auto.k-end, c.number_page_count-number_pages.ensures) in (
       i.told,
       (
         s.pages,

@@ -19,8 +19,8 @@ returns-clause-given c = λ content blocks header p.
     let n = c.args.numbers in
     let known = the_same c.in-Some.counts (counts_in n.info) (sym c.in-Some.is ∙ c.counts.ensures content blocks header (n.info ∷ p.passed) p.stands) in
     let same = c.count.ensures.count content blocks header [] p.numbered in
-    begun_given content blocks header n c.args.pages (c.in-Some.counts.pages - c.div_ceil.result - 1) p
-    (omega (arith, ap (λ (x : Counts). x.pages) known, same, p.numbered.count, c.div_ceil.ensures))
+    begun_given content blocks header n c.args.pages (c.in-Some.counts.pages - c.number_page_count.result - 1) p
+    (omega (arith, ap (λ (x : Counts). x.pages) known, same, p.numbered.count, c.number_page_count.ensures))
 
 -- the image has an info page and its number pages
 room : (pages count numbers lists : ℕ) → pages ≡ count → meta_of numbers + 1 ≤ count → lists ≡ meta_of numbers → lists + 1 ≤ pages
@@ -32,8 +32,8 @@ overflow_sub-left c =
     let n = c.args.numbers in
     let known = the_same c.in-Some.counts (counts_in n.info) (sym c.in-Some.is ∙ c.counts.ensures content blocks header (n.info ∷ p.passed) p.stands) in
     let same = c.count.ensures.count content blocks header [] p.numbered in
-    let all : c.div_ceil.result ≡ meta_of n.count = omega (arith, c.div_ceil.ensures, same, p.numbered.count) in
-    omega (arith, room c.in-Some.counts.pages (counts_in n.info).pages n.count c.div_ceil.result (ap (λ (x : Counts). x.pages) known) p.numbered.room all)
+    let all : c.number_page_count.result ≡ meta_of n.count = omega (arith, c.number_page_count.ensures, same, p.numbered.count) in
+    omega (arith, room c.in-Some.counts.pages (counts_in n.info).pages n.count c.number_page_count.result (ap (λ (x : Counts). x.pages) known) p.numbered.room all)
 
 pub overflow_sub-left-2 : goal.overflow_sub-left-2
 overflow_sub-left-2 c =
@@ -41,5 +41,5 @@ overflow_sub-left-2 c =
     let n = c.args.numbers in
     let known = the_same c.in-Some.counts (counts_in n.info) (sym c.in-Some.is ∙ c.counts.ensures content blocks header (n.info ∷ p.passed) p.stands) in
     let same = c.count.ensures.count content blocks header [] p.numbered in
-    let all : c.div_ceil.result ≡ meta_of n.count = omega (arith, c.div_ceil.ensures, same, p.numbered.count) in
-    omega (arith, room c.in-Some.counts.pages (counts_in n.info).pages n.count c.div_ceil.result (ap (λ (x : Counts). x.pages) known) p.numbered.room all)
+    let all : c.number_page_count.result ≡ meta_of n.count = omega (arith, c.number_page_count.ensures, same, p.numbered.count) in
+    omega (arith, room c.in-Some.counts.pages (counts_in n.info).pages n.count c.number_page_count.result (ap (λ (x : Counts). x.pages) known) p.numbered.room all)

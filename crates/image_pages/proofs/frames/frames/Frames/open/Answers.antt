@@ -23,7 +23,7 @@ read_ahead-requires g c =
     let opened = subst (OpensNumbers content blocks c.args.header (g.D.Disk.faults c.args.disk.now) (g.D.Disk.faults c.open.new.disk) (g.R.Report.told c.args.report.now) (g.R.Report.told c.open.new.report)) c.in-Open.is c.in_ok-open.ensures.opened in
     let h = opened.1 in
     let same = c.count.ensures.count content blocks c.args.header [] h in
-    let all : c.div_ceil-number_pages.result ≡ meta_of c.count.result = omega (arith, c.div_ceil-number_pages.ensures) in (
+    let all : c.number_page_count-number_pages.result ≡ meta_of c.count.result = omega (arith, c.number_page_count-number_pages.ensures) in (
       c.args.header,
       (
         n.info,
@@ -31,7 +31,7 @@ read_ahead-requires g c =
           [],
           (
             ahead_stands content (g.D.Disk.content c.open.new.disk) blocks (g.D.Disk.block_count c.open.new.disk) c.args.header n c.in_ok-pages.pages c.open.ensures.content c.open.ensures.blocks h (c.in_ok-pages.ensures.stands content blocks c.args.header (n.info ∷ [])),
-            enough_ahead content blocks c.args.header n c.count.result c.div_ceil-number_pages.result h same all,
+            enough_ahead content blocks c.args.header n c.count.result c.number_page_count-number_pages.result h same all,
           ),
         ),
       ),
@@ -52,9 +52,9 @@ returns-then-not-read_ahead-clause-opened g c =
     let opened = subst (OpensNumbers content blocks c.args.header (g.D.Disk.faults c.args.disk.now) (g.D.Disk.faults c.open.new.disk) (g.R.Report.told c.args.report.now) (g.R.Report.told c.open.new.report)) c.in-Open.is c.in_ok-open.ensures.opened in
     let h = opened.1 in
     let same = c.count.ensures.count content blocks c.args.header [] h in
-    let all : c.div_ceil-number_pages.result ≡ meta_of c.count.result = omega (arith, c.div_ceil-number_pages.ensures) in
+    let all : c.number_page_count-number_pages.result ≡ meta_of c.count.result = omega (arith, c.number_page_count-number_pages.ensures) in
     let stands = ahead_stands content after blocks many c.args.header n c.in_ok-pages.pages c.open.ensures.content c.open.ensures.blocks h (c.in_ok-pages.ensures.stands content blocks c.args.header (n.info ∷ [])) in
-    let refused = c.if-not-read_ahead.ensures.gives c.args.header n.info [] stands (enough_ahead content blocks c.args.header n c.count.result c.div_ceil-number_pages.result h same all) in
+    let refused = c.if-not-read_ahead.ensures.gives c.args.header n.info [] stands (enough_ahead content blocks c.args.header n c.count.result c.number_page_count-number_pages.result h same all) in
     inr (refused.0, refused_since after content many blocks c.args.header (g.D.Disk.faults c.args.disk.now) (g.D.Disk.faults c.open.new.disk) (g.D.Disk.faults c.read_ahead.new.disk) (g.R.Report.told c.args.report.now) (g.R.Report.told c.open.new.report) (g.R.Report.told c.read_ahead.new.report) refused.0 c.open.ensures.content c.open.ensures.blocks opened.0 c.open.ensures.faults refused.1)
 
 pub of-requires : goal.of-requires
@@ -67,16 +67,16 @@ of-requires g c =
     let opened = subst (OpensNumbers content blocks c.args.header (g.D.Disk.faults c.args.disk.now) (g.D.Disk.faults c.open.new.disk) (g.R.Report.told c.args.report.now) (g.R.Report.told c.open.new.report)) c.in-Open.is c.in_ok-open.ensures.opened in
     let h = opened.1 in
     let same = c.count.ensures.count content blocks c.args.header [] h in
-    let all : c.div_ceil-number_pages.result ≡ meta_of c.count.result = omega (arith, c.div_ceil-number_pages.ensures) in
+    let all : c.number_page_count-number_pages.result ≡ meta_of c.count.result = omega (arith, c.number_page_count-number_pages.ensures) in
     let stands = ahead_stands content after blocks many c.args.header n c.in_ok-pages.pages c.open.ensures.content c.open.ensures.blocks h (c.in_ok-pages.ensures.stands content blocks c.args.header (n.info ∷ [])) in
-    let more = c.if-not-read_ahead.ensures.gives c.args.header n.info [] stands (enough_ahead content blocks c.args.header n c.count.result c.div_ceil-number_pages.result h same all) in (
+    let more = c.if-not-read_ahead.ensures.gives c.args.header n.info [] stands (enough_ahead content blocks c.args.header n c.count.result c.number_page_count-number_pages.result h same all) in (
       content,
       (
         blocks,
         (
           c.args.header,
-          passed_over content blocks c.args.header n c.read_ahead.new.pages c.read_ahead.new.into c.div_ceil-number_pages.result h (all ∙ ap meta_of (same ∙ h.count))
-              (has_read_since after content many blocks c.args.header (n.info ∷ []) c.read_ahead.new.pages c.read_ahead.new.into c.div_ceil-number_pages.result c.open.ensures.content c.open.ensures.blocks more.1),
+          passed_over content blocks c.args.header n c.read_ahead.new.pages c.read_ahead.new.into c.number_page_count-number_pages.result h (all ∙ ap meta_of (same ∙ h.count))
+              (has_read_since after content many blocks c.args.header (n.info ∷ []) c.read_ahead.new.pages c.read_ahead.new.into c.number_page_count-number_pages.result c.open.ensures.content c.open.ensures.blocks more.1),
         ),
       ),
     )
@@ -91,10 +91,10 @@ returns-clause-opened g c =
     let opened = subst (OpensNumbers content blocks c.args.header (g.D.Disk.faults c.args.disk.now) (g.D.Disk.faults c.open.new.disk) (g.R.Report.told c.args.report.now) (g.R.Report.told c.open.new.report)) c.in-Open.is c.in_ok-open.ensures.opened in
     let h = opened.1 in
     let same = c.count.ensures.count content blocks c.args.header [] h in
-    let all : c.div_ceil-number_pages.result ≡ meta_of c.count.result = omega (arith, c.div_ceil-number_pages.ensures) in
+    let all : c.number_page_count-number_pages.result ≡ meta_of c.count.result = omega (arith, c.number_page_count-number_pages.ensures) in
     let stands = ahead_stands content after blocks many c.args.header n c.in_ok-pages.pages c.open.ensures.content c.open.ensures.blocks h (c.in_ok-pages.ensures.stands content blocks c.args.header (n.info ∷ [])) in
-    let more = c.if-not-read_ahead.ensures.gives c.args.header n.info [] stands (enough_ahead content blocks c.args.header n c.count.result c.div_ceil-number_pages.result h same all) in (
+    let more = c.if-not-read_ahead.ensures.gives c.args.header n.info [] stands (enough_ahead content blocks c.args.header n c.count.result c.number_page_count-number_pages.result h same all) in (
       more.0 ∙ opened.0,
-      c.of.ensures.given content blocks c.args.header (passed_over content blocks c.args.header n c.read_ahead.new.pages c.read_ahead.new.into c.div_ceil-number_pages.result h (all ∙ ap meta_of (same ∙ h.count))
-          (has_read_since after content many blocks c.args.header (n.info ∷ []) c.read_ahead.new.pages c.read_ahead.new.into c.div_ceil-number_pages.result c.open.ensures.content c.open.ensures.blocks more.1)),
+      c.of.ensures.given content blocks c.args.header (passed_over content blocks c.args.header n c.read_ahead.new.pages c.read_ahead.new.into c.number_page_count-number_pages.result h (all ∙ ap meta_of (same ∙ h.count))
+          (has_read_since after content many blocks c.args.header (n.info ∷ []) c.read_ahead.new.pages c.read_ahead.new.into c.number_page_count-number_pages.result c.open.ensures.content c.open.ensures.blocks more.1)),
     )
