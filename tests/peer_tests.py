@@ -1,5 +1,5 @@
-"""The programs beside a peer: tools/bench.c, a C program that hibernates, resumes, exports and imports by docs/FORMATS.md. What both
-leave of the same input must be the same, byte for byte. Without a cc nothing is compared.
+"""The programs beside a peer: tools/bench.c, a C program that hibernates, resumes, exports, imports and plays a script's cycle by
+docs/FORMATS.md and docs/MACHINE.md. What both leave of the same input must be the same, byte for byte. Without a cc nothing is compared.
 """
 import pathlib
 import shutil
@@ -43,6 +43,19 @@ def check_alike(peer, machine, last, used):
         check_same("the area", other.bytes(), own.bytes())
 
 
+# A script's cycle of so many page frames, beside the seven of the tables: images of one map, of one that is exactly full, of several.
+CYCLES = [0, 1, 502, 503, 505, 1017, 1500]
+
+
+def check_cycle(peer, frames):
+    saved = frames + 7
+    pages = saved + -(-saved // 512) + 1
+    lines = ["boot", "steps core 2", *(f"claim 1 {16 + k}" for k in range(frames)), "hibernate", f"steps core {pages + pages // 511 + 5}",
+             "resume", f"steps core {4 + -(-pages // 511) + pages}"]
+    script = "".join(f"{line}\n" for line in lines).encode()
+    check_same(f"a cycle of {frames} page frames", peer.run("cycle", frames, stdin=b""), run("swsusp", "replay", stdin=script))
+
+
 def test_a_peer_in_c_leaves_the_same():
     if not shutil.which("cc"):
         return
@@ -50,3 +63,5 @@ def test_a_peer_in_c_leaves_the_same():
         peer = Peer(room)
         for machine, last, used in CASES:
             check_alike(peer, machine, last, used)
+        for frames in CYCLES:
+            check_cycle(peer, frames)

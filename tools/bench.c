@@ -1,8 +1,9 @@
 /* bench.c: does what `swsusp` does, without a proof and without a check of what it reads, as a measure for `swsusp`.
  *
  * bench hibernate AREA < DUMP, bench resume AREA < LOADER > DUMP, bench export < DUMP > STREAM, bench import AREA < STREAM:
- * the same work over the same files, by the tables of docs/FORMATS.md. bench cycle PAGES: a hibernation and a resume of
- * PAGES page frames over a disk in memory, as a script plays them. The input must be in order: faults aren't looked for.
+ * the same work over the same files, by the tables of docs/FORMATS.md. bench claims PAGES: what a script prints that boots
+ * and claims PAGES page frames. bench cycle PAGES: the same, and then a hibernation and a resume, step by step over a disk in
+ * memory that keeps what is synced apart. The input must be in order: faults aren't looked for.
  */
 #include <fcntl.h>
 #include <stdint.h>
@@ -25,11 +26,18 @@ struct image {
     unsigned char **data; /* the page of each number */
 };
 
-/* A disk is a file, or memory. */
+/* A disk is a file, or memory: the blocks as they read, those that a power cut leaves, and which ones differ. */
 struct disk {
     int file;
-    unsigned char *blocks;
+    unsigned char *blocks, *durable;
+    uint64_t *unsynced, count;
 };
+
+/* The operation that a script plays: how many of its steps are made, and of how many. A resume doesn't print how many. */
+static struct {
+    const char *word;
+    uint64_t done, of;
+} script;
 
 static void need(int done, const char *what)
 {
@@ -56,25 +64,56 @@ static void put(const void *from, size_t size)
     need(fwrite(from, 1, size, stdout) == size, "output fails");
 }
 
+/* Prints the reply to a step after which more follow: each call of a disk in memory is one. */
+static void reply(void)
+{
+    if (script.done == script.of)
+        return;
+    if (strcmp(script.word, "loading") == 0)
+        printf("loading %llu\n", (unsigned long long)script.done);
+    else
+        printf("%s %llu of %llu\n", script.word, (unsigned long long)script.done, (unsigned long long)script.of);
+    script.done++;
+}
+
+static void begin_steps(const char *word, uint64_t of)
+{
+    script.word = word;
+    script.done = 0;
+    script.of = of;
+    reply();
+}
+
 static void read_block(struct disk *d, uint64_t b, void *into)
 {
-    if (d->blocks)
+    if (d->blocks) {
         memcpy(into, d->blocks + PAGE * b, PAGE);
-    else
+        reply();
+    } else {
         need(pread(d->file, into, PAGE, (off_t)(PAGE * b)) == PAGE, "read fault");
+    }
 }
 
 static void write_block(struct disk *d, uint64_t b, const void *from)
 {
-    if (d->blocks)
+    if (d->blocks) {
         memcpy(d->blocks + PAGE * b, from, PAGE);
-    else
+        d->unsynced[d->count++] = b;
+        reply();
+    } else {
         need(pwrite(d->file, from, PAGE, (off_t)(PAGE * b)) == PAGE, "write fault");
+    }
 }
 
 static void sync_disk(struct disk *d)
 {
-    need(d->blocks || fsync(d->file) == 0, "sync fault");
+    for (uint64_t k = 0; k < d->count; k++)
+        memcpy(d->durable + PAGE * d->unsynced[k], d->blocks + PAGE * d->unsynced[k], PAGE);
+    d->count = 0;
+    if (d->blocks)
+        reply();
+    else
+        need(fsync(d->file) == 0, "sync fault");
 }
 
 static unsigned char *frame(struct machine *m, uint64_t p)
@@ -263,6 +302,8 @@ static void hibernate(struct machine *m, struct disk *d, struct image *i)
     unsigned char made[PAGE];
 
     copy_saved(m, i);
+    if (d->blocks)
+        begin_steps("more", i->pages + i->pages / ENTRIES + 1 + 4);
     begin_map(&w);
     for (uint64_t k = 0; k < i->pages; k++)
         write_page(&w, stream_page(m, i, k, made));
@@ -310,10 +351,13 @@ static uint64_t resume(struct machine *m, struct disk *d)
     unsigned char *wanted = room(m->frames, 1);
     for (uint64_t k = 0; k < count; k++)
         wanted[i.numbers[k]] = 1;
-    /* A page whose page frame is free goes there at once; any other waits in a free page frame that no page wants. */
+    /* A page whose page frame is free goes there at once; any other waits in a free page frame that no page wants. A script's
+     * pages wait in the highest page frames (crates/placement/specs/Plan.antt). */
     for (uint64_t k = 0; k < count; k++) {
         uint64_t at = i.numbers[k];
-        if (!is_free(m, at)) {
+        if (d->blocks) {
+            at = m->frames - count + k;
+        } else if (!is_free(m, at)) {
             while (!is_free(m, to) || wanted[to])
                 to++;
             at = to++;
@@ -365,28 +409,48 @@ static uint64_t import_stream(struct disk *d)
     return count;
 }
 
-/* Plays a machine of 4,096 page frames, whose tables are in the first ones, and a disk of 3,001 blocks, both in memory. */
-static void cycle(uint64_t pages)
+/* Boots a machine of 4,096 page frames, whose tables are in the first ones, with a disk of 3,001 blocks, both in memory. Claims
+ * `pages` page frames. */
+static void claim(struct machine *m, struct disk *d, uint64_t pages)
 {
-    struct machine m = { .slots = 3001, .slot_table = 4, .frames = 4096 };
-    struct disk d = { .file = -1 };
-    struct image i;
-    uint32_t bad = 131072;
+    uint32_t bad = 131072, flags = 0;
 
-    m.memory = room(m.frames, PAGE);
-    d.blocks = room(m.slots, PAGE);
-    memcpy(d.blocks + 4086, "SWAPSPACE2", 10);
-    memcpy(frame(&m, m.slot_table), &bad, 4);
-    for (uint32_t p = 0; p < m.frames; p++) {
-        uint32_t flags = p < 7 || (p >= 16 && p < 16 + pages) ? 0 : FREE;
-        memcpy(frame(&m, 0) + 4 * p, &flags, 4);
+    m->slots = 3001;
+    m->slot_table = 4;
+    m->frames = 4096;
+    m->memory = room(m->frames, PAGE);
+    d->blocks = room(m->slots, PAGE);
+    d->durable = room(m->slots, PAGE);
+    d->unsynced = room(2 * m->slots, sizeof *d->unsynced);
+    memcpy(d->blocks + 4086, "SWAPSPACE2", 10);
+    memcpy(frame(m, m->slot_table), &bad, 4);
+    begin_steps("more", 2);
+    reply();
+    printf("booted image no\n");
+    for (uint32_t p = 7; p < m->frames; p++) {
+        uint32_t is_free = FREE;
+        memcpy(frame(m, 0) + 4 * p, &is_free, 4);
     }
-    hibernate(&m, &d, &i);
-    for (uint32_t p = 0; p < m.frames; p++) {
+    for (uint32_t p = 16; p < 16 + pages; p++) {
+        memset(frame(m, p), 0, PAGE);
+        memcpy(frame(m, 0) + 4 * p, &flags, 4);
+        printf("ok\n");
+    }
+}
+
+/* Hibernates, and resumes with a loader to which every page frame is free. */
+static void cycle(struct machine *m, struct disk *d)
+{
+    struct image i;
+
+    hibernate(m, d, &i);
+    printf("hibernated %llu\n", (unsigned long long)i.count);
+    for (uint32_t p = 0; p < m->frames; p++) {
         uint32_t flags = FREE;
-        memcpy(frame(&m, 0) + 4 * p, &flags, 4);
+        memcpy(frame(m, 0) + 4 * p, &flags, 4);
     }
-    printf("resumed %llu\n", (unsigned long long)resume(&m, &d));
+    begin_steps("loading", 4 + (i.pages + ENTRIES - 1) / ENTRIES + i.pages);
+    printf("resumed %llu\n", (unsigned long long)resume(m, d));
 }
 
 int main(int count, char **words)
@@ -398,7 +462,9 @@ int main(int count, char **words)
     struct disk d = { .file = -1 };
     int has_area = !strcmp(command, "hibernate") || !strcmp(command, "resume") || !strcmp(command, "import");
 
-    need(count == (has_area || !strcmp(command, "cycle") ? 3 : 2), "hibernate AREA, resume AREA, export, import AREA, cycle PAGES");
+    int plays = !strcmp(command, "claims") || !strcmp(command, "cycle");
+
+    need(count == (has_area || plays ? 3 : 2), "hibernate AREA, resume AREA, export, import AREA, claims PAGES, cycle PAGES");
     setvbuf(stdin, input, _IOFBF, sizeof input);
     setvbuf(stdout, output, _IOFBF, sizeof output);
     if (has_area) {
@@ -420,8 +486,10 @@ int main(int count, char **words)
     } else if (!strcmp(command, "import")) {
         printf("imported %llu\n", (unsigned long long)import_stream(&d));
     } else {
-        need(!strcmp(command, "cycle"), "no such command");
-        cycle(strtoull(words[2], NULL, 10));
+        need(plays, "no such command");
+        claim(&m, &d, strtoull(words[2], NULL, 10));
+        if (!strcmp(command, "cycle"))
+            cycle(&m, &d);
     }
     need(fflush(stdout) == 0, "output fails");
     return 0;

@@ -199,9 +199,10 @@ echo "a claim: $(((claims - one) / 1499))"
 echo "a show: $(((shows - one) / 10000)), of these its parse: $(((shows_parsed - one_parsed) / 10000))"
 echo "a hibernation and a resume of 1500 page frames: $((cycle - claims))"
 if [ -x "$room/bench" ]; then
-    none=$(instructions "$room/bench" cycle 0)
+    "$room/bench" cycle 1500 >"$room/c" && "$program" replay <"$room/cycle" >"$room/own" && cmp "$room/own" "$room/c" || exit 1
+    none=$(instructions "$room/bench" claims 1500)
     all=$(instructions "$room/bench" cycle 1500)
-    awk -v own=$((cycle - claims)) -v c=$((all - none)) 'BEGIN { printf "  in C %d, ratio %.2f\n", c, own / c }'
+    awk -v own=$((cycle - claims)) -v c=$((all - none)) 'BEGIN { printf "  in C, which prints the same, %d, ratio %.2f\n", c, own / c }'
 fi
 "$program" replay <"$room/cycle" | tail -n 1
 
