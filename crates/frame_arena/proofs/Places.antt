@@ -320,6 +320,20 @@ module _ (places : List ℕ) (pages : List (List ℕ)) (capacity : ℕ) (kept : 
     pub kept_over : (shared : ℕ) → shared < 2 → place < 2 → AreKept (set places p shared) pages capacity
     kept_over shared in_shared at = kept_shared places pages capacity kept p shared within in_shared (subst (λ (k : ℕ). k < 2) (sym place_of) at)
 
+    -- the page in the place is what is seen
+    pub seen_in : whole (get_or pages place []) ≡ frame frames p
+    seen_in = ap (page_in pages) (sym place_of) ∙ sym (frame-contents places pages p within) ∙ ap (λ (all : List (List ℕ)). frame all p) seen
+
+    -- a page is added for it, if it shares one
+    pub added_over : (page : List ℕ) → contents (set places p (length pages)) (pages ++ page ∷ []) ≡ with_frame frames p (whole page)
+    added_over page = contents_added places pages capacity kept p page within ∙ ap (λ (all : List (List ℕ)). with_frame all p (whole page)) seen
+
+    pub kept_added_over : (page : List ℕ) → place < 2 → AreKept (set places p (length pages)) (pages ++ page ∷ []) capacity
+    kept_added_over page at = kept_added places pages capacity kept p page within (subst (λ (k : ℕ). k < 2) (sym place_of) at)
+
+    pub room_over : place < 2 → length pages < capacity
+    room_over at = room_for_one places pages capacity kept p within (subst (λ (k : ℕ). k < 2) (sym place_of) at)
+
     pub lent_over : (page : List ℕ) → 2 ≤ place → contents places (set pages place page) ≡ with_frame frames p (whole page)
     lent_over page own =
         ap (λ (k : ℕ). contents places (set pages k page)) (sym place_of)

@@ -115,7 +115,7 @@ impl Frames {
         requires { p < length self.old }
         ensures { self.new ≡ with_frame self.old p bytes.now }
     {
-        *self.page_mut(p) = Page::from_bytes(bytes);
+        self.page_mut(p).copy_from_slice(bytes);
     }
 
     /// Copies page frame `from` into page frame `to`.
@@ -124,13 +124,17 @@ impl Frames {
         requires to_in_range { to < length self.old }
         ensures { self.new ≡ with_frame self.old to (frame self.old from) }
     {
-        let shared = self.places[from as usize];
-        if shared < SHARED {
-            self.share(to, shared);
+        let source = self.places[from as usize];
+        if source < SHARED {
+            self.share(to, source);
             return;
         }
-        let target = own_place(&mut self.places, &mut self.pages, to);
-        let source = self.places[from as usize];
+        let target = self.places[to as usize];
+        if target < SHARED {
+            self.places[to as usize] = self.pages.len() as u32;
+            push_copy(&mut self.pages, source);
+            return;
+        }
         // Nothing lies between these two statements, so that the page is copied only once.
         let page = Page::from_bytes(self.pages[source as usize].as_bytes());
         self.pages[target as usize] = page;
@@ -241,8 +245,7 @@ impl Frames {
             self.places[p as usize] = shared;
             return;
         }
-        let page = Page::from_bytes(self.pages[shared as usize].as_bytes());
-        self.pages[place as usize] = page;
+        self.pages[place as usize] = page_shared(shared);
     }
 }
 
@@ -261,13 +264,39 @@ fn own_place(places: &mut Vec<u32>, pages: &mut Vec<Page>, p: u32) -> u32
     }
     let added = pages.len() as u32;
     places[p as usize] = added;
-    push_copy(pages, place);
+    push_shared(pages, place);
     added
+}
+
+// Adds the page that page frames share in a place, if there is room. It is a function of its own so that its callers have
+// no page on their stacks.
+#[cold]
+#[inline(never)]
+fn push_shared(pages: &mut Vec<Page>, place: u32)
+    requires shared { place < 2 }
+    requires room { vec_len pages.old < vec_capacity pages.old }
+    ensures pages { pages.new.items ≡ pages.old.items ++ shared_page place ∷ [] }
+    ensures capacity { vec_capacity pages.new ≡ vec_capacity pages.old }
+{
+    pages.push_reserved(page_shared(place));
+}
+
+// Returns the page that page frames share in a place.
+#[tactic(auto, unfolding(crate::specs::Places::shared_page))]
+fn page_shared(place: u32) -> Page
+    requires { place < 2 }
+    ensures shared { result ≡ shared_page place }
+    ensures page { IsPage result }
+{
+    if place == ZEROS {
+        Page::zero()
+    } else {
+        Page::filled(FILLER)
+    }
 }
 
 // Adds a copy of the page in a place, if there is room. It is a function of its own so that its callers have no page on
 // their stacks.
-#[cold]
 #[inline(never)]
 fn push_copy(pages: &mut Vec<Page>, place: u32)
     requires in_range { place < length pages.old.items }

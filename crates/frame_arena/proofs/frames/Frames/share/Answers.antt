@@ -1,7 +1,6 @@
-use Rattle.std.proofs.Common.{◌≡◌, ◌<◌, ◌∙◌, ℕ, sym, ap, subst, arith}
+use Rattle.std.proofs.Common.{◌<◌, ◌∙◌, ℕ, sym, ap, subst, arith}
 use Rattle.definitions.specs.Tables.{with_frame}
-use Rattle.frame_arena.specs.Places.{shared_page}
-use Rattle.frame_arena.proofs.Places.{within, place_inside, kept_over, moved_over, written_over, shared_in, shared_inside}
+use Rattle.frame_arena.proofs.Places.{within, place_inside, kept_over, moved_over, written_over}
 use Rattle.frame_arena.proofs.frames.Frames.share.Goals as goal
 
 pub index-place-requires : goal.index-place-requires
@@ -30,12 +29,6 @@ returns-then-place-lt-SHARED c =
     let place = c.index-place.result.now in
     moved_over places.items pages.items pages.cap c.self.invariant c.args.self.now c.self.view_is c.args.p c.requires.in_range place c.index-place.ensures c.args.shared c.requires.shared
 
-pub index-requires : goal.index-requires
-index-requires c =
-    let pages = c.self.inside.pages in
-    let some = shared_inside c.self.inside.places.items pages.items pages.cap c.self.invariant c.args.shared c.requires.shared in
-    subst (λ (n : ℕ). c.args.shared < n) (sym pages.ok.0) some
-
 pub index_mut-requires-2 : goal.index_mut-requires-2
 index_mut-requires-2 c =
     let places = c.self.inside.places in
@@ -48,8 +41,6 @@ returns c =
     let places = c.self.inside.places in
     let pages = c.self.inside.pages in
     let place = c.index-place.result.now in
-    let page = c.from_bytes-page.result in
-    let read = shared_in places.items pages.items pages.cap c.self.invariant c.args.shared c.requires.shared c.index.result.now c.index.ensures in
-    let copied : page ≡ shared_page c.args.shared = c.from_bytes-page.ensures.bytes ∙ c.as_bytes.ensures.bytes ∙ read in
-    written_over places.items pages.items pages.cap c.self.invariant c.args.self.now c.self.view_is c.args.p c.requires.in_range place c.index-place.ensures page (omega arith) c.from_bytes-page.ensures.page
-    ∙ ap (with_frame c.args.self.now c.args.p) copied
+    let page = c.page_shared.result in
+    written_over places.items pages.items pages.cap c.self.invariant c.args.self.now c.self.view_is c.args.p c.requires.in_range place c.index-place.ensures page (omega arith) c.page_shared.ensures.page
+    ∙ ap (with_frame c.args.self.now c.args.p) c.page_shared.ensures.shared
