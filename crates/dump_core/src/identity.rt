@@ -4,7 +4,7 @@ ghost use Rattle.dump_core.specs.Cores.{identity_bytes, machine_of};
 
 use arrayvec::ArrayVec;
 use definitions::Ident;
-use elf_core::machine_of_name;
+use elf_core::machines::machine_of_name;
 
 /// The index of the machine's name (`struct new_utsname`).
 const MACHINE: usize = 4;

@@ -11,7 +11,7 @@ ghost use Rattle.dump_file.specs.ReadBack.{ReadsBack};
 ghost use Rattle.dump_file.specs.Written.{dump_bytes, extent_bytes, front_bytes, head_bytes, is_plain, layout_bytes};
 ghost use Rattle.dump_file.specs.Written.{map_bytes, nonzero, record_bytes, records_bytes, zone_bytes};
 
-use crate::head::Head;
+use crate::head::{Head, add_number};
 use crate::put::put_number;
 use byte_streams::{Sink, put_all};
 use frame_arena::Frames;
@@ -48,7 +48,7 @@ fn head_of(hw: &Hardware, frames: &Frames) -> Head
     let mut head = Head::new();
     put_front(&mut head, hw);
     put_layout(&mut head, hw);
-    head.put_number(count_records(frames, hw.zones()));
+    add_number(&mut head, count_records(frames, hw.zones()));
     head
 }
 
@@ -65,12 +65,12 @@ fn put_front(head: &mut Head, hw: &Hardware)
     } else {
         b"SWSUDMP2"
     });
-    head.put_number(ident.version_code);
-    head.put_number(hw.slots());
-    head.put_number(hw.frame_table());
-    head.put_number(hw.slot_table());
-    head.put_number(hw.hw_sig());
-    head.put_number(count_zones(hw.zones()));
+    add_number(head, ident.version_code);
+    add_number(head, hw.slots());
+    add_number(head, hw.frame_table());
+    add_number(head, hw.slot_table());
+    add_number(head, hw.hw_sig());
+    add_number(head, count_zones(hw.zones()));
     put_names(head, &ident.names);
     head.put(&[0, 0]);
 }
@@ -124,8 +124,8 @@ fn put_zones(head: &mut Head, zones: &Zones)
     ensures len { length head.new ≤ 552 }
 {
     for &(start, count) in zones.as_slice() {
-        head.put_number(start);
-        head.put_number(count);
+        add_number(head, start);
+        add_number(head, count);
     }
 }
 
@@ -137,8 +137,8 @@ fn put_map(head: &mut Head, extents: &[(u32, u32, u32)])
     ensures bytes { head.new ≡ head.old ++ map_bytes extents.now }
     ensures len { length head.new ≤ 1328 }
 {
-    head.put_number(extents[0].2);
-    head.put_number(extents.len() as u32);
+    add_number(head, extents[0].2);
+    add_number(head, extents.len() as u32);
     put_extents(head, extents);
 }
 
@@ -149,9 +149,9 @@ fn put_extents(head: &mut Head, extents: &[(u32, u32, u32)])
     ensures len { length head.new ≡ length head.old + 12 * length extents.now }
 {
     for &(start, length, block) in extents {
-        head.put_number(start);
-        head.put_number(length);
-        head.put_number(block);
+        add_number(head, start);
+        add_number(head, length);
+        add_number(head, block);
     }
 }
 

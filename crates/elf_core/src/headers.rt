@@ -3,7 +3,7 @@ ghost use Rattle.elf_core.specs.Elf.{file_header_bytes, head_size, is_many, load
 ghost use Rattle.elf_core.specs.Elf.{note_offset, padding, page_offset, program_header_half, section_count};
 ghost use Rattle.elf_core.specs.Elf.{section_offset, section_size};
 
-use crate::pieces::Piece;
+use crate::pieces::{Piece, put_half, put_word, put_xword};
 
 /// ELFMAG, ELFCLASS64, ELFDATA2LSB, EV_CURRENT and ELFOSABI_NONE (`e_ident`).
 const IDENT: [u8; 16] = [127, 69, 76, 70, 2, 1, 1, 0, 0, 0, 0, 0, 0, 0, 0, 0];
@@ -45,19 +45,19 @@ pub fn file_header(machine: u16, runs: u32) -> Piece
 {
     let mut piece = Piece::new();
     piece.put(&IDENT);
-    piece.put_half(ET_CORE);
-    piece.put_half(machine);
-    piece.put_word(EV_CURRENT);
-    piece.put_xword(0);
-    piece.put_xword(u64::from(FILE_HEADER));
-    piece.put_xword(section_offset(runs));
-    piece.put_word(0);
-    piece.put_half(FILE_HEADER);
-    piece.put_half(PROGRAM_HEADER);
-    piece.put_half(program_header_half(runs));
-    piece.put_half(SECTION_HEADER);
-    piece.put_half(section_count(runs));
-    piece.put_half(0);
+    put_half(&mut piece, ET_CORE);
+    put_half(&mut piece, machine);
+    put_word(&mut piece, EV_CURRENT);
+    put_xword(&mut piece, 0);
+    put_xword(&mut piece, u64::from(FILE_HEADER));
+    put_xword(&mut piece, section_offset(runs));
+    put_word(&mut piece, 0);
+    put_half(&mut piece, FILE_HEADER);
+    put_half(&mut piece, PROGRAM_HEADER);
+    put_half(&mut piece, program_header_half(runs));
+    put_half(&mut piece, SECTION_HEADER);
+    put_half(&mut piece, section_count(runs));
+    put_half(&mut piece, 0);
     piece
 }
 
@@ -69,14 +69,14 @@ pub fn load(offset: u64, first: u64, count: u64) -> Piece
     ensures { result ≡ load_bytes offset first count }
 {
     let mut piece = Piece::new();
-    piece.put_word(PT_LOAD);
-    piece.put_word(ALL_FLAGS);
-    piece.put_xword(offset);
-    piece.put_xword(PAGE * first);
-    piece.put_xword(PAGE * first);
-    piece.put_xword(PAGE * count);
-    piece.put_xword(PAGE * count);
-    piece.put_xword(PAGE);
+    put_word(&mut piece, PT_LOAD);
+    put_word(&mut piece, ALL_FLAGS);
+    put_xword(&mut piece, offset);
+    put_xword(&mut piece, PAGE * first);
+    put_xword(&mut piece, PAGE * first);
+    put_xword(&mut piece, PAGE * count);
+    put_xword(&mut piece, PAGE * count);
+    put_xword(&mut piece, PAGE);
     piece
 }
 
@@ -86,14 +86,14 @@ pub fn note_header(runs: u32) -> Piece
     ensures { result ≡ note_header_bytes runs }
 {
     let mut piece = Piece::new();
-    piece.put_word(PT_NOTE);
-    piece.put_word(0);
-    piece.put_xword(note_offset(runs));
-    piece.put_xword(0);
-    piece.put_xword(0);
-    piece.put_xword(NOTE);
-    piece.put_xword(NOTE);
-    piece.put_xword(4);
+    put_word(&mut piece, PT_NOTE);
+    put_word(&mut piece, 0);
+    put_xword(&mut piece, note_offset(runs));
+    put_xword(&mut piece, 0);
+    put_xword(&mut piece, 0);
+    put_xword(&mut piece, NOTE);
+    put_xword(&mut piece, NOTE);
+    put_xword(&mut piece, 4);
     piece
 }
 

@@ -3,11 +3,10 @@
 #![tactic(auto)]
 
 mod headers;
-mod machines;
+pub mod machines;
 mod notes;
 mod pieces;
 
 pub use headers::{file_header, load, note_header, padding, page_offset};
-pub use machines::machine_of_name;
 pub use notes::{note, section};
 pub use pieces::Piece;

@@ -1,25 +1,26 @@
+//! The numbers of machines (`e_machine`).
 ghost use Rattle.std.specs.Prelude.{◌≡◌};
 ghost use Rattle.elf_core.specs.Machines.{machine_of_name};
 
-/// EM_386 to EM_LOONGARCH.
-const I386: u16 = 3;
+/// EM_386 to EM_LOONGARCH (elf.h).
+pub const I386: u16 = 3;
 
-const PPC64: u16 = 21;
+pub const PPC64: u16 = 21;
 
-const S390: u16 = 22;
+pub const S390: u16 = 22;
 
-const ARM: u16 = 40;
+pub const ARM: u16 = 40;
 
-const X86_64: u16 = 62;
+pub const X86_64: u16 = 62;
 
-const AARCH64: u16 = 183;
+pub const AARCH64: u16 = 183;
 
-const RISCV: u16 = 243;
+pub const RISCV: u16 = 243;
 
-const LOONGARCH: u16 = 258;
+pub const LOONGARCH: u16 = 258;
 
 /// EM_NONE.
-const NONE: u16 = 0;
+pub const NONE: u16 = 0;
 
 /// Returns the number of the machine that Linux calls by this name (`machine` of `struct new_utsname`).
 pub fn machine_of_name(name: &[u8]) -> u16

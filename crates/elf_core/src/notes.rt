@@ -2,7 +2,7 @@ ghost use Rattle.std.specs.Prelude.{◌≡◌, ◌+◌, ◌<◌, ◌^◌, length
 ghost use Rattle.elf_core.specs.Elf.{note_bytes, section_bytes};
 
 use crate::headers::is_many;
-use crate::pieces::Piece;
+use crate::pieces::{Piece, put_word, put_xword};
 
 /// The number of bytes of the note's name with its zero byte. It is filled to a multiple of 4.
 const NAME_SIZE: u32 = 9;
@@ -17,9 +17,9 @@ pub fn note(identity: &[u8]) -> Piece
     ensures { result ≡ note_bytes identity.now }
 {
     let mut piece = Piece::new();
-    piece.put_word(NAME_SIZE);
-    piece.put_word(IDENTITY_SIZE);
-    piece.put_word(1);
+    put_word(&mut piece, NAME_SIZE);
+    put_word(&mut piece, IDENTITY_SIZE);
+    put_word(&mut piece, 1);
     piece.put(b"DIRUKOFE");
     piece.put(&[0; 4]);
     piece.put(identity);
@@ -35,16 +35,16 @@ pub fn section(runs: u32) -> Piece
     let mut piece = Piece::new();
     if is_many(runs) {
         piece.put(&[0; 4]);
-        piece.put_word(0);
-        piece.put_word(0);
-        piece.put_xword(0);
-        piece.put_xword(0);
-        piece.put_xword(0);
-        piece.put_xword(0);
-        piece.put_word(0);
-        piece.put_word(runs + 1);
-        piece.put_xword(0);
-        piece.put_xword(0);
+        put_word(&mut piece, 0);
+        put_word(&mut piece, 0);
+        put_xword(&mut piece, 0);
+        put_xword(&mut piece, 0);
+        put_xword(&mut piece, 0);
+        put_xword(&mut piece, 0);
+        put_word(&mut piece, 0);
+        put_word(&mut piece, runs + 1);
+        put_xword(&mut piece, 0);
+        put_xword(&mut piece, 0);
     }
     piece
 }

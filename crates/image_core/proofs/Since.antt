@@ -9,7 +9,7 @@ use Rattle.image_pages.specs.declared.pages.Pages.{Pages}
 use Rattle.image_pages.proofs.Earlier.{refused_earlier}
 use Rattle.image_pages.proofs.Reading.{page_of_first, read_given}
 use Rattle.image_pages.proofs.Starting.{bad_earlier}
-use Rattle.image_pages.specs.OpensFrames.{IsBad}
+use Rattle.image_pages.specs.Opens.{IsBad}
 use Rattle.image_core.specs.Cores.{IsStopped}
 use Rattle.image_core.specs.declared.stop.Stop.{Stop}
 use Rattle.image_core.specs.declared.stop.Stop.TheVariants.{NoImage, Refused, TooMany, Changed, Sink, Memory}

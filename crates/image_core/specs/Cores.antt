@@ -8,9 +8,8 @@ use Rattle.image_check.specs.Told.{Told}
 use Rattle.image_pages.specs.Chain.{IsChainPage, IsWholeStream, chain_page}
 use Rattle.image_pages.specs.Formats.{chain_format}
 use Rattle.image_pages.specs.Ends.{IsEnded}
-use Rattle.image_pages.specs.Opens.{IsNoImage}
+use Rattle.image_pages.specs.Opens.{IsBad, IsNoImage}
 use Rattle.image_pages.specs.Saved.{count_in}
-use Rattle.image_pages.specs.OpensFrames.{IsBad}
 use Rattle.image_pages.specs.SavedFrames.{AreAllSaved, SavedFrame, saved_frames}
 use Rattle.image_pages.specs.SavedNumbers.{AreAllNumbers}
 use Rattle.elf_core.specs.Elf.{core_bytes}

@@ -4,7 +4,7 @@ ghost use Rattle.image_core.specs.Ready.{IsReady};
 
 use crate::counting::{Tally, count_image};
 use crate::heads::{put_back, put_front, write_loads};
-use crate::opening::{open_frames, open_numbers, read_info};
+use crate::opening::{open, read_info};
 use crate::pages::write_pages;
 use crate::stop::Stop;
 use byte_streams::Sink;
@@ -69,8 +69,8 @@ fn make_ready<D: Disk, R: Report>(
 {
     let tally = count_image(alloc, disk, header, report)?;
     let info = read_info(alloc, disk, header, report)?;
-    let numbers = open_numbers(alloc, disk, header, report)?;
-    let frames = open_frames(alloc, disk, header, report)?;
+    let numbers: Numbers = open(alloc, disk, header, report)?;
+    let frames: Frames = open(alloc, disk, header, report)?;
     Ok(Ready {
         tally,
         info,

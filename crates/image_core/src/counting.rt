@@ -4,7 +4,7 @@ ghost use Rattle.image_core.specs.Cores.{IsStopped};
 ghost use Rattle.image_core.specs.Counted.{HasCounted, HasTallied, WillGive};
 
 use crate::counter::RunCounter;
-use crate::opening::open_numbers;
+use crate::opening::open;
 use crate::stop::Stop;
 use image_check::Report;
 use image_pages::frames::{NextNumber, Numbers};
@@ -34,7 +34,7 @@ pub(crate) fn count_image<D: Disk, R: Report>(
     ensures orders { D.orders disk.new ≡ D.orders disk.old }
     ensures blocks { D.block_count disk.new ≡ D.block_count disk.old }
 {
-    let mut numbers = open_numbers(alloc, disk, header, report)?;
+    let mut numbers: Numbers = open(alloc, disk, header, report)?;
     let count = numbers.count();
     if count >= u64::from(u32::MAX) {
         return Err(Stop::TooMany);

@@ -4,7 +4,7 @@ ghost use Rattle.image_check.specs.Info.{is_version_text};
 ghost use Rattle.image_core.specs.Identity.{arch_machine, machine_of};
 
 use byte_streams::is_printable;
-use elf_core::machine_of_name;
+use elf_core::machines::{AARCH64, NONE, X86_64, machine_of_name};
 use page_core::Page;
 
 /// The offsets of the version code and of the machine's name (`struct swsusp_info`, kernel/power/power.h).
@@ -18,13 +18,6 @@ const NAME_SIZE: usize = 65;
 const MAGIC: u64 = 0x2345_6789_abcd_ef02;
 
 const MAGIC_WORD: usize = 3;
-
-/// EM_X86_64, EM_AARCH64 and EM_NONE (elf.h).
-const X86_64: u16 = 62;
-
-const AARCH64: u16 = 183;
-
-const NONE: u16 = 0;
 
 /// Returns the number of the machine of an info page, from the machine's name or from the header of its architecture.
 #[tactic(auto, unfolding(crate::specs::Identity::machine_of))]

@@ -1,10 +1,9 @@
 -- What a comparison of two images has reported, and what comes next.
 use Rattle.std.specs.Prelude.{◌≡◌, ℕ, ◌+◌, ◌<◌, ◌≤◌, List, [], ◌∷◌, ◌++◌, Option, Some, None}
-use Rattle.image_pages.specs.OpensFrames.{IsBad}
 use Rattle.image_pages.specs.SavedFrames.{SavedFrame}
 use Rattle.image_pages.specs.Says.{AreAllGiven}
 use Rattle.image_pages.specs.Ends.{IsRefused}
-use Rattle.image_pages.specs.Opens.{IsNoImage}
+use Rattle.image_pages.specs.Opens.{IsBad, IsNoImage}
 use Rattle.image_differ.specs.Differences.{Image, differences, frame_differences, no_frame}
 use Rattle.image_differ.specs.Headings.{heading_differences}
 use Rattle.image_differ.specs.Marks.{IsHeading}

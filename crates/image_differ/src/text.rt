@@ -1,7 +1,7 @@
 //! The lines that are printed for differences.
 ghost use Rattle.std.specs.Prelude.{◌≡◌, ◌+◌, ◌≤◌, ◌++◌, length};
 ghost use Rattle.image_check.specs.Lines.{named};
-ghost use Rattle.image_differ.specs.Lines.{difference_text, line_of, pair_text, part_text};
+ghost use Rattle.image_differ.specs.Lines.{line_of, pair_text, part_text};
 
 use crate::{Difference, Part};
 use byte_streams::Line;
@@ -11,39 +11,35 @@ pub fn line_of(difference: &Difference) -> Line
     ensures { result ≡ line_of difference.now }
 {
     let mut line = Line::new();
-    put_difference(&mut line, difference);
-    line.put(b"\n");
-    line
-}
-
-/// Writes the text of a difference into an empty buffer.
-fn put_difference(line: &mut Line, difference: &Difference)
-    requires { length line.old ≡ 0 }
-    ensures text { line.new ≡ difference_text difference.now }
-    ensures len { length line.new ≤ 100 }
-{
     match *difference {
         Difference::Flags { first, second } => put_pair(
-            line,
+            &mut line,
             b"header flags ",
             u64::from(first),
             u64::from(second),
         ),
         Difference::HardwareSignature { first, second } => put_pair(
-            line,
+            &mut line,
             b"header hardware signature ",
             u64::from(first),
             u64::from(second),
         ),
         Difference::Identity(part) => {
             line.put(b"identity ");
-            put_part(line, part);
+            put_part(&mut line, part);
         }
-        Difference::MemorySize { first, second } => put_pair(line, b"memory size ", first, second),
-        Difference::FirstAlone(frame) => put_named(line, b"frame ", frame, b" first alone"),
-        Difference::SecondAlone(frame) => put_named(line, b"frame ", frame, b" second alone"),
-        Difference::Page(frame) => put_named(line, b"page ", frame, b""),
+        Difference::MemorySize { first, second } => put_pair(
+            &mut line,
+            b"memory size ",
+            first,
+            second,
+        ),
+        Difference::FirstAlone(frame) => put_named(&mut line, b"frame ", frame, b" first alone"),
+        Difference::SecondAlone(frame) => put_named(&mut line, b"frame ", frame, b" second alone"),
+        Difference::Page(frame) => put_named(&mut line, b"page ", frame, b""),
     }
+    line.put(b"\n");
+    line
 }
 
 /// Writes a name, and a number of each image, into an empty buffer.

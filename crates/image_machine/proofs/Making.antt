@@ -6,7 +6,7 @@ use Rattle.definitions.specs.Zones.{numbers}
 use Rattle.image_check.specs.Told.{Told}
 use Rattle.image_pages.proofs.Earlier.{refused_earlier}
 use Rattle.image_pages.proofs.Starting.{bad_earlier}
-use Rattle.image_pages.specs.OpensFrames.{IsBad}
+use Rattle.image_pages.specs.Opens.{IsBad}
 use Rattle.image_pages.specs.SavedFrames.{AreAllSaved, SavedFrame}
 use Rattle.image_pages.specs.SavedNumbers.{AreAllNumbers}
 use Rattle.image_machine.specs.Layouts.{zones_of}

@@ -3,8 +3,7 @@ use Rattle.std.specs.Prelude.{◌≡◌, ℕ, [], Option}
 use Rattle.definitions.specs.Disk.{Content}
 use Rattle.image_check.specs.Told.{Told}
 use Rattle.image_pages.specs.Numbered.{HasNumbered}
-use Rattle.image_pages.specs.OpensFrames.{IsBad}
-use Rattle.image_pages.specs.Opens.{IsBadHeader, IsNoImage}
+use Rattle.image_pages.specs.Opens.{IsBad, IsBadHeader, IsNoImage}
 use Rattle.image_machine.specs.Headings.{HasNoArea, IsHeadingOf, IsMarkedBlock}
 use Rattle.image_machine.specs.declared.dump.begun.Begun.{Begun}
 use Rattle.image_machine.specs.declared.dump.begun.Begun.TheVariants.{NoImage, Refused, NoArea, Open}

@@ -3,10 +3,9 @@ use Rattle.std.specs.Prelude.{◌≡◌, ℕ, List, Option, Contains}
 use Rattle.definitions.specs.Disk.{Content}
 use Rattle.definitions.specs.Zones.{numbers}
 use Rattle.image_check.specs.Told.{Told}
-use Rattle.image_pages.specs.OpensFrames.{IsBad}
 use Rattle.image_pages.specs.SavedFrames.{AreAllSaved, AreFirstSaved, SavedFrame}
 use Rattle.image_pages.specs.SavedNumbers.{AreAllNumbers, AreFirstNumbers}
-use Rattle.image_pages.specs.Opens.{IsNoImage}
+use Rattle.image_pages.specs.Opens.{IsBad, IsNoImage}
 use Rattle.image_machine.specs.Layouts.{zones_of}
 use Rattle.image_machine.specs.Limits.{PassesAtLast, PassesAtOnce}
 use Rattle.image_machine.specs.Loaders.{IsLoaderFor}

@@ -4,22 +4,24 @@ use Rattle.definitions.specs.Disk.{Content}
 use Rattle.image_check.specs.Told.{Told}
 use Rattle.image_pages.proofs.Earlier.{refused_earlier}
 use Rattle.image_pages.proofs.Starting.{bad_earlier}
-use Rattle.image_pages.specs.OpensFrames.{IsBad, OpensNumbers}
+use Rattle.image_pages.specs.Opens.{IsBad}
+use Rattle.image_pages.specs.OpensFrames.{OpensNumbers}
 use Rattle.image_pages.specs.Numbered.{HasNumbered, HasTooMany}
 use Rattle.image_pages.specs.declared.frames.numbers.Numbers.{Numbers}
-use Rattle.image_pages.specs.declared.frames.numbers.OpenedNumbers.{OpenedNumbers}
-use Rattle.image_pages.specs.declared.frames.numbers.OpenedNumbers.TheVariants.{NoImage, Refused, Open}
+use Rattle.image_pages.specs.declared.frames.numbers.Numbers.{Numbers}
+use Rattle.image_pages.specs.declared.opened.Opened.{Opened}
+use Rattle.image_pages.specs.declared.opened.Opened.TheVariants.{NoImage, Refused, Open}
 
 bad_before : (content : Option Content) (blocks header before then now : ℕ) (told end : Told) → before ≤ then → IsBad content blocks header then now told end → IsBad content blocks header before now told end
 bad_before content blocks header before then now told end le (inl bad) = inl (bad_earlier content blocks header before then now told end le bad)
 bad_before content blocks header before then now told end le (inr (pages, refused)) = inr (pages, refused_earlier content blocks header before then now told end pages le refused)
 
-numbers_open_earlier : (content : Option Content) (blocks header before then now : ℕ) (told end : Told) (o : OpenedNumbers) → before ≤ then → OpensNumbers content blocks header then now told end o → OpensNumbers content blocks header before now told end o
+numbers_open_earlier : (content : Option Content) (blocks header before then now : ℕ) (told end : Told) (o : Opened Numbers) → before ≤ then → OpensNumbers content blocks header then now told end o → OpensNumbers content blocks header before now told end o
 numbers_open_earlier content blocks header before then now told end NoImage le h = h
 numbers_open_earlier content blocks header before then now told end Refused le h = bad_before content blocks header before then now told end le h
 numbers_open_earlier content blocks header before then now told end (Open numbers) le h = h
 
-pub numbers_open_since : (c d : Option Content) (m n header before then now : ℕ) (told old end : Told) (o : OpenedNumbers) → c ≡ d → m ≡ n → old ≡ told → before ≤ then → OpensNumbers c m header then now old end o → OpensNumbers d n header before now told end o
+pub numbers_open_since : (c d : Option Content) (m n header before then now : ℕ) (told old end : Told) (o : Opened Numbers) → c ≡ d → m ≡ n → old ≡ told → before ≤ then → OpensNumbers c m header then now old end o → OpensNumbers d n header before now told end o
 numbers_open_since c d m n header before then now told old end o e i t le h =
     numbers_open_earlier d n header before then now told end o le
     (subst (λ (x : Told). OpensNumbers d n header then now x end o) t

@@ -3,5 +3,5 @@
 mod frames;
 mod numbers;
 
-pub use frames::{Frames, Next, Opened};
-pub use numbers::{NextNumber, Numbers, OpenedNumbers};
+pub use frames::{Frames, Next};
+pub use numbers::{NextNumber, Numbers};

@@ -4,10 +4,12 @@
 
 mod accepting;
 pub mod frames;
+mod opened;
 mod pages;
 mod saved;
 mod tally;
 
 pub use accepting::{accept_header, accept_info};
-pub use pages::{Next, Opened, Pages};
+pub use opened::{Opened, Reader};
+pub use pages::{Next, Pages};
 pub use saved::{Found, frame_of, has_page, page_of, read_ahead, read_page};

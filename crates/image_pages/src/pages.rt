@@ -2,6 +2,7 @@ ghost use Rattle.std.specs.Prelude.{◌≡◌};
 ghost use Rattle.image_pages.specs.Visited.{page_seen};
 
 use crate::accepting::{accept_header, accept_name};
+use crate::opened::{Opened, Reader};
 use image_check::{Counts, Finding, Progress, Report, format_of, limits_of, mark_in};
 use image_format::AreaKind;
 use image_walk::{Visit, Walker};
@@ -19,16 +20,6 @@ pub struct Pages {
     progress: Progress,
 }
 
-/// The result of opening an image.
-#[derive(Drop)]
-pub enum Opened {
-    /// The header block, if the disk has it, isn't marked.
-    NoImage,
-    /// The header block has findings, which were reported.
-    Refused,
-    Open(Pages),
-}
-
 /// What comes next.
 #[derive(Clone, Copy, Debug, PartialEq, Eq)]
 pub enum Next {
@@ -39,29 +30,23 @@ pub enum Next {
     Refused,
 }
 
-impl Pages {
-    ghost use Rattle.std.specs.Prelude.{◌≡◌, ◌≤◌, ℕ, List, Option, IfOk, OnErr};
-    ghost use Rattle.definitions.specs.Disk.{Content};
-    ghost use Rattle.image_pages.specs.Clean.{counts_by};
-    ghost use Rattle.image_pages.specs.Ends.{Reads, Says};
-    ghost use Rattle.image_pages.specs.Opens.{Opens};
-    ghost use Rattle.image_pages.specs.Stands.{Stands};
+impl Reader for Pages {
+    ghost use Rattle.std.proofs.Common.{inl};
+    ghost use Rattle.image_pages.specs.Opens.{BeginsPages, IsBadHeader};
 
-    /// Opens the image of the area whose header lies in block `header`, reading only that block.
-    pub fn open<D: Disk, R: Report>(
+    ghost begins = { BeginsPages };
+
+    ghost refuses = { IsBadHeader };
+
+    ghost is_bad = { λ content blocks header before now told then bad. inl bad };
+
+    /// Reads only the header block.
+    fn open<D: Disk, R: Report>(
         alloc: Global,
         disk: &mut D,
         header: u32,
         report: &mut R,
-    ) -> Result<Opened, NoMemory>
-        ensures opened { IfOk result (Opens (D.content disk.old) (D.block_count disk.old) header
-            (D.faults disk.old) (D.faults disk.new) (R.told report.old) (R.told report.new)) }
-        ensures no_memory { OnErr result (R.told report.new ≡ R.told report.old) }
-        ensures content { D.content disk.new ≡ D.content disk.old }
-        ensures faults { D.faults disk.old ≤ D.faults disk.new }
-        ensures orders { D.orders disk.new ≡ D.orders disk.old }
-        ensures blocks { D.block_count disk.new ≡ D.block_count disk.old }
-    {
+    ) -> Result<Opened<Pages>, NoMemory> {
         let blocks = disk.blocks();
         if header >= blocks {
             return Ok(Opened::NoImage);
@@ -88,6 +73,14 @@ impl Pages {
             },
         }))
     }
+}
+
+impl Pages {
+    ghost use Rattle.std.specs.Prelude.{◌≡◌, ◌≤◌, ℕ, List, Option, IfOk};
+    ghost use Rattle.definitions.specs.Disk.{Content};
+    ghost use Rattle.image_pages.specs.Clean.{counts_by};
+    ghost use Rattle.image_pages.specs.Ends.{Reads, Says};
+    ghost use Rattle.image_pages.specs.Stands.{Stands};
 
     /// Reads the next page of the image, passing over its maps. After an end or a refusal it isn't called again. The
     /// pages that were given are the first ones of the stream that the chain of the disk names; an end says that they

@@ -7,7 +7,7 @@ ghost use Rattle.image_stream.specs.Streamed.{IsFront, IsStopped, IsStreamed};
 use crate::converting::convert;
 use byte_streams::{Sink, put_all};
 use image_check::Report;
-use image_pages::{Next, Opened, Pages};
+use image_pages::{Next, Opened, Pages, Reader};
 use page_core::{Failed, Format, NoMemory, Page};
 use sector_disk::Disk;
 use std::alloc::Global;

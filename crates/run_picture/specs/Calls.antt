@@ -15,7 +15,7 @@ use Rattle.run_picture.specs.declared.lanes.Activity.{Activity}
 use Rattle.run_picture.specs.declared.lanes.Activity.TheVariants.{Nothing, Boots, Runs, Saves, Undoes, Undone, Settles}
 use Rattle.run_picture.specs.declared.lanes.Activity.TheVariants.{Wakes, Loads, Sleeps}
 use Rattle.run_picture.specs.declared.telling.Failing.{Failing}
-use Rattle.run_picture.specs.declared.telling.Failing.TheVariants as failing
+use Rattle.run_picture.specs.declared.telling.Failing.TheVariants as fails
 use Rattle.run_picture.specs.declared.telling.Told.{Told}
 use Rattle.run_picture.specs.declared.telling.Told.TheVariants as told
 
@@ -23,8 +23,8 @@ use Rattle.run_picture.specs.declared.telling.Told.TheVariants as told
 abbrev pub boot_call : Told → Drawn
 boot_call (told.More k n) = Made Sync
 boot_call (told.Booted image) = Made Header
-boot_call (told.Fault failing.Sync left) = Fails Sync
-boot_call (told.Fault failing.Read left) = Fails Header
+boot_call (told.Fault fails.Sync left) = Fails Sync
+boot_call (told.Fault fails.Read left) = Fails Header
 boot_call _ = NoCall
 
 -- A hibernation writes its pages and maps. The last four steps sync, read the header block, write the mark, and sync.
@@ -35,17 +35,18 @@ abbrev pub unmarked : UndoCall → Call
 unmarked undo.Write = Mark
 unmarked undo.Sync = Sync
 
-abbrev pub unsaved : Failing → Call
-unsaved failing.Write = Write
-unsaved failing.Sync = Sync
-unsaved failing.Read = Header
+-- the call that fails, where only the header block is read and this call writes
+abbrev pub failing : Failing → Call → Call
+failing fails.Read call = Header
+failing fails.Write call = call
+failing fails.Sync call = Sync
 
 abbrev pub save_call : Told → Drawn
 save_call (told.More k n) = Made (save_step (n - k))
 save_call told.Saved = Made Sync
 save_call told.Slept = Made Sync
 save_call (told.Undo call k) = Fails (unmarked call)
-save_call (told.Fault call left) = Fails (unsaved call)
+save_call (told.Fault call left) = Fails (failing call Write)
 save_call told.Other = Made Header
 save_call _ = NoCall
 
@@ -65,15 +66,10 @@ undone_call (told.Fault call left) = undone_by left
 undone_call _ = NoCall
 
 -- Settling and waking read the header block, write it taken back, and sync.
-abbrev pub untaken : Failing → Call
-untaken failing.Read = Header
-untaken failing.Write = Back
-untaken failing.Sync = Sync
-
 abbrev pub back_call : Told → Drawn
 back_call (told.More k n) = Made (if k == 1 then Header else Back)
 back_call told.Runs = Made Sync
-back_call (told.Fault call left) = Fails (untaken call)
+back_call (told.Fault call left) = Fails (failing call Back)
 back_call _ = NoCall
 
 -- A resume syncs, reads the header block, writes it taken back, syncs, and reads the image.
@@ -81,8 +77,8 @@ abbrev pub load_step : ℕ → Call
 load_step k = if k == 1 then Sync else if k == 2 then Header else if k == 3 then Back else if k == 4 then Sync else Read
 
 abbrev pub unloaded : Failing → Left → Call
-unloaded failing.Read Gone = Read
-unloaded call left = untaken call
+unloaded fails.Read Gone = Read
+unloaded call left = failing call Back
 
 abbrev pub load_call : Told → Drawn
 load_call (told.Loading k) = Made (load_step k)
@@ -97,8 +93,8 @@ load_call _ = NoCall
 abbrev pub task_call : Told → Drawn
 task_call told.Written = Made Write
 task_call told.Fetched = Made Read
-task_call (told.Fault failing.Write left) = Fails Write
-task_call (told.Fault failing.Read left) = Fails Read
+task_call (told.Fault fails.Write left) = Fails Write
+task_call (told.Fault fails.Read left) = Fails Read
 task_call _ = NoCall
 
 abbrev pub core_call : Activity → Told → Drawn

@@ -1,8 +1,8 @@
 //! Which call of the disk a step makes.
 ghost use Rattle.std.specs.Prelude.{◌≡◌, ◌==◌, if◌then◌else◌};
-ghost use Rattle.run_picture.specs.Calls.{back_call, boot_call, call_of, core_call, load_call, load_step, save_call};
-ghost use Rattle.run_picture.specs.Calls.{save_step, task_call, undo_call, undone_by, undone_call, unloaded, unmarked};
-ghost use Rattle.run_picture.specs.Calls.{unsaved, untaken};
+ghost use Rattle.run_picture.specs.Calls.{back_call, boot_call, call_of, core_call, failing, load_call, load_step};
+ghost use Rattle.run_picture.specs.Calls.{save_call, save_step, task_call, undo_call, undone_by, undone_call, unloaded};
+ghost use Rattle.run_picture.specs.Calls.{unmarked};
 
 use crate::lanes::Activity;
 use crate::telling::{Failing, Told};
@@ -84,7 +84,7 @@ fn save_call(told: Told) -> Drawn
         Told::Saved => Drawn::Made(Call::Sync),
         Told::Slept => Drawn::Made(Call::Sync),
         Told::Undo { call, .. } => Drawn::Fails(unmarked(call)),
-        Told::Fault { call, .. } => Drawn::Fails(unsaved(call)),
+        Told::Fault { call, .. } => Drawn::Fails(failing(call, Call::Write)),
         Told::Other => Drawn::Made(Call::Header),
         _ => Drawn::NoCall,
     }
@@ -114,14 +114,14 @@ fn unmarked(call: UndoCall) -> Call
     }
 }
 
-/// Returns the call of a hibernation that fails before the mark.
-fn unsaved(call: Failing) -> Call
-    ensures { result ≡ unsaved call }
+/// Returns the call that fails, where only the header block is read and this is what is written.
+fn failing(call: Failing, written: Call) -> Call
+    ensures { result ≡ failing call written }
 {
     match call {
-        Failing::Write => Call::Write,
-        Failing::Sync => Call::Sync,
         Failing::Read => Call::Header,
+        Failing::Write => written,
+        Failing::Sync => Call::Sync,
     }
 }
 
@@ -160,19 +160,8 @@ fn back_call(told: Told) -> Drawn
     match told {
         Told::More { k, .. } => Drawn::Made(if k == 1 { Call::Header } else { Call::Back }),
         Told::Runs => Drawn::Made(Call::Sync),
-        Told::Fault { call, .. } => Drawn::Fails(untaken(call)),
+        Told::Fault { call, .. } => Drawn::Fails(failing(call, Call::Back)),
         _ => Drawn::NoCall,
-    }
-}
-
-/// Returns the call that fails when a mark is taken back.
-fn untaken(call: Failing) -> Call
-    ensures { result ≡ untaken call }
-{
-    match call {
-        Failing::Read => Call::Header,
-        Failing::Write => Call::Back,
-        Failing::Sync => Call::Sync,
     }
 }
 
@@ -208,7 +197,7 @@ fn unloaded(call: Failing, left: Left) -> Call
 {
     match (call, left) {
         (Failing::Read, Left::Gone) => Call::Read,
-        _ => untaken(call),
+        _ => failing(call, Call::Back),
     }
 }
 

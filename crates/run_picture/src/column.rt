@@ -14,7 +14,7 @@ ghost use Rattle.run_picture.specs.Words.{event_words};
 
 use crate::calls::{Call, Drawn, call_of};
 use crate::lanes::{Activity, ImageShown, Lanes, begins, is_core};
-use crate::piece::Piece;
+use crate::piece::{Piece, put_escaped, put_named, put_use};
 use crate::telling::{Told, told_by};
 use crate::words::put_words;
 use byte_streams::{Sink, put_all};
@@ -102,7 +102,7 @@ fn put_open(piece: &mut Piece, place: u64)
     ensures added { piece.new ≡ piece.old ++ open_text place }
     ensures len { length piece.new ≤ length piece.old + 100 }
 {
-    piece.put_named(b"<g transform='translate(", place);
+    put_named(piece, b"<g transform='translate(", place);
     piece.put(b")'>\n");
 }
 
@@ -125,9 +125,9 @@ fn put_title(piece: &mut Piece, words: &[u8], line: &[u8])
     ensures len { length piece.new ≤ length piece.old + 3000 }
 {
     piece.put(b"<title>");
-    piece.put_escaped(words);
+    put_escaped(piece, words);
     piece.put(b": ");
-    piece.put_escaped(line);
+    put_escaped(piece, line);
     piece.put(b"</title>\n");
 }
 
@@ -187,7 +187,7 @@ fn put_cut(piece: &mut Piece, event: &Event)
     ensures len { length piece.new ≤ length piece.old + 40 }
 {
     match event {
-        Event::Cut(_) => piece.put_use(b"", b"cut"),
+        Event::Cut(_) => put_use(piece, b"", b"cut"),
         _ => {}
     }
 }
@@ -197,9 +197,9 @@ fn put_bands(piece: &mut Piece, lanes: Lanes)
     ensures added { piece.new ≡ piece.old ++ bands_text lanes }
     ensures len { length piece.new ≤ length piece.old + 120 }
 {
-    piece.put_use(b"power-", power_name(lanes.activity));
-    piece.put_use(b"memory-", activity_name(lanes.activity));
-    piece.put_use(b"disk-", image_name(lanes.image));
+    put_use(piece, b"power-", power_name(lanes.activity));
+    put_use(piece, b"memory-", activity_name(lanes.activity));
+    put_use(piece, b"disk-", image_name(lanes.image));
 }
 
 fn power_name(activity: Activity) -> &'static [u8]
@@ -300,10 +300,10 @@ fn put_call(piece: &mut Piece, drawn: Drawn)
 {
     match drawn {
         Drawn::NoCall => {}
-        Drawn::Made(call) => piece.put_use(b"", call_name(call)),
+        Drawn::Made(call) => put_use(piece, b"", call_name(call)),
         Drawn::Fails(call) => {
-            piece.put_use(b"", call_name(call));
-            piece.put_use(b"", b"fails");
+            put_use(piece, b"", call_name(call));
+            put_use(piece, b"", b"fails");
         }
     }
 }
@@ -327,9 +327,9 @@ fn put_label_of(piece: &mut Piece, words: &[u8])
     ensures added { piece.new ≡ piece.old ++ words_label words.now }
     ensures len { length piece.new ≤ length piece.old + 2100 }
 {
-    piece.put_use(b"", b"event");
+    put_use(piece, b"", b"event");
     piece.put(b"<text transform='translate(12 146)rotate(-90)'>");
-    piece.put_escaped(words);
+    put_escaped(piece, words);
     piece.put(b"</text>\n");
 }
 
@@ -353,7 +353,7 @@ fn put_reply(piece: &mut Piece, name: &[u8], line: &[u8])
     piece.put(b"<text class='");
     piece.put(name);
     piece.put(b"' transform='translate(5 290)rotate(90)'>");
-    piece.put_escaped(line);
+    put_escaped(piece, line);
     piece.put(b"</text>\n");
 }
 

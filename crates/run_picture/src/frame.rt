@@ -4,7 +4,7 @@ ghost use Rattle.definitions.specs.Disk.{HasRisen};
 ghost use Rattle.definitions.specs.Streams.{TakesAll, TakesFront};
 ghost use Rattle.run_picture.specs.Picture.{foot, head, size_text, width};
 
-use crate::piece::Piece;
+use crate::piece::{Piece, put_named};
 use crate::shapes::{LANES, LEGEND};
 use byte_streams::{Sink, put_all};
 use page_core::Failed;
@@ -26,11 +26,12 @@ fn sized(width: u64) -> Piece
     ensures { result ≡ size_text width }
 {
     let mut piece = Piece::new();
-    piece.put_named(
+    put_named(
+        &mut piece,
         b"<svg xmlns='http://www.w3.org/2000/svg' viewBox='0 0 ",
         width,
     );
-    piece.put_named(b" 404' width='", width);
+    put_named(&mut piece, b" 404' width='", width);
     piece.put(b"' height='404' font-family='sans-serif' font-size='11'>\n");
     piece
 }

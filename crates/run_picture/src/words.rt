@@ -5,7 +5,7 @@ ghost use Rattle.run_picture.specs.Texts.{named};
 ghost use Rattle.run_picture.specs.Words.{event_words, one_words, range_words, ranges_words, request_words};
 ghost use Rattle.run_picture.specs.Words.{saving_words, two_words};
 
-use crate::piece::Piece;
+use crate::piece::{Piece, put_named};
 use page_core::Format;
 use plain_machine::{Actor, Event, Loader, Ranges, TaskOp};
 
@@ -22,16 +22,16 @@ pub(crate) fn put_words(piece: &mut Piece, event: &Event)
         Event::Suspend(format) => put_saving(piece, b"suspend", *format),
         Event::Wake => piece.put(b"wake"),
         Event::Settle => piece.put(b"settle"),
-        Event::Shrink(want) => piece.put_named(b"shrink ", *want),
+        Event::Shrink(want) => put_named(piece, b"shrink ", *want),
         Event::Resume(Loader::Ranges(ranges), _) => {
             piece.put(b"resume");
             put_ranges(piece, ranges);
         }
         Event::Resume(Loader::Table, _) => piece.put(b"resume"),
         Event::Step(Actor::Core) => piece.put(b"step core"),
-        Event::Step(Actor::Task(task)) => piece.put_named(b"step ", u64::from(*task)),
+        Event::Step(Actor::Task(task)) => put_named(piece, b"step ", u64::from(*task)),
         Event::Task(task, op) => put_request(piece, *task, *op),
-        Event::Cut(pick) => piece.put_named(b"cut ", *pick),
+        Event::Cut(pick) => put_named(piece, b"cut ", *pick),
         Event::Arm { first, count, pick } => put_two(piece, b"arm ", *first, *count, *pick),
     }
 }
@@ -64,8 +64,8 @@ fn put_range(piece: &mut Piece, range: (u32, u32))
     ensures added { piece.new ≡ piece.old ++ range_words range }
     ensures len { length piece.new ≤ length piece.old + 42 }
 {
-    piece.put_named(b" ", u64::from(range.0));
-    piece.put_named(b"-", u64::from(range.1));
+    put_named(piece, b" ", u64::from(range.0));
+    put_named(piece, b"-", u64::from(range.1));
 }
 
 fn put_request(piece: &mut Piece, task: u32, op: TaskOp)
@@ -78,7 +78,7 @@ fn put_request(piece: &mut Piece, task: u32, op: TaskOp)
         TaskOp::Release(frame) => put_one(piece, b"release ", task, frame),
         TaskOp::Store(frame, word, value) => {
             put_two(piece, b"store ", task, frame, u64::from(word));
-            piece.put_named(b" ", value);
+            put_named(piece, b" ", value);
         }
         TaskOp::Show(frame, word) => put_two(piece, b"show ", task, frame, u64::from(word)),
         TaskOp::Cache(frame) => put_one(piece, b"cache ", task, frame),
@@ -92,8 +92,8 @@ fn put_one(piece: &mut Piece, name: &[u8], task: u32, number: u32)
     ensures added { piece.new ≡ piece.old ++ one_words name.now task number }
     ensures len { length piece.new ≤ length piece.old + length name.now + 41 }
 {
-    piece.put_named(name, u64::from(task));
-    piece.put_named(b" ", u64::from(number));
+    put_named(piece, name, u64::from(task));
+    put_named(piece, b" ", u64::from(number));
 }
 
 fn put_two(piece: &mut Piece, name: &[u8], task: u32, first: u32, second: u64)
@@ -102,5 +102,5 @@ fn put_two(piece: &mut Piece, name: &[u8], task: u32, first: u32, second: u64)
     ensures len { length piece.new ≤ length piece.old + length name.now + 62 }
 {
     put_one(piece, name, task, first);
-    piece.put_named(b" ", second);
+    put_named(piece, b" ", second);
 }

@@ -76,7 +76,7 @@ pub bind_ok : {A B : Type 0} (r : Result A FaultKind) (f : A → Result B FaultK
 bind_ok (Ok x) f y e = (x, refl, e)
 bind_ok (Err k) f y e = absurd (cc)
 
-within_span : (s : Span) (o : Option ℕ) (n : ℕ) → in_span s o ≡ Ok n → (s.low ≤ n) × (n ≤ s.high)
+within_span : (s : Span) (o : Option ℕ) (n : ℕ) → in_span s o ≡ Ok n → (s.0 ≤ n) × (n ≤ s.1)
 within_span s None n e = absurd (cc)
 within_span s (Some m) n e = grind (arith, nat_tests)
 

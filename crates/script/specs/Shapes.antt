@@ -63,7 +63,7 @@ number_of word =
 
 abbrev pub in_span : Span → Option ℕ → Result ℕ FaultKind
 in_span s None = Err Number
-in_span s (Some n) = if nat_lt n s.low then Err Range else if nat_lt s.high n then Err Range else Ok n
+in_span s (Some n) = if nat_lt n s.0 then Err Range else if nat_lt s.1 n then Err Range else Ok n
 
 -- a number of a span: Number comes before Range
 unfoldable pub number_in : Span → List ℕ → Result ℕ FaultKind
@@ -84,7 +84,7 @@ abbrev pub AllWithin : List Span → List ℕ → Type 0
 AllWithin [] [] = ⊤
 AllWithin [] (n ∷ ns) = ⊥
 AllWithin (s ∷ spans) [] = ⊥
-AllWithin (s ∷ spans) (n ∷ ns) = (s.low ≤ n) × (n ≤ s.high) × AllWithin spans ns
+AllWithin (s ∷ spans) (n ∷ ns) = (s.0 ≤ n) × (n ≤ s.1) × AllWithin spans ns
 
 -- Ranges of page frames, as the words after `resume` name them.
 
@@ -135,7 +135,7 @@ abbrev pub number_row : {A : Type 0} → List ℕ → List Span → (List ℕ �
 number_row first spans says = record { first = first; reads = numbers_say spans says }
 
 abbrev pub span : ℕ → ℕ → Span
-span low high = record { low = low; high = high }
+span low high = record { 0 = low; 1 = high }
 
 -- The settings.
 

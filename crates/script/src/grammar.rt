@@ -21,66 +21,33 @@ use plain_machine::{Actor, BootFrom, Event, IdentCheck, Loader, TaskOp};
 use std::alloc::AllocError;
 
 // The numbers that each place of a line may have.
-const FRAME: Span = Span {
-    low: 0,
-    high: 65_535,
-};
+const FRAME: Span = Span(0, 65_535);
 
-const FRAMES: Span = Span {
-    low: 1,
-    high: 65_536,
-};
+const FRAMES: Span = Span(1, 65_536);
 
-const LAST: Span = Span {
-    low: 1,
-    high: 16_383,
-};
+const LAST: Span = Span(1, 16_383);
 
-const FLAGS: Span = Span { low: 0, high: 126 };
+const FLAGS: Span = Span(0, 126);
 
-const SIGNATURE: Span = Span {
-    low: 0,
-    high: 4_294_967_295,
-};
+const SIGNATURE: Span = Span(0, 4_294_967_295);
 
-const SLOT: Span = Span {
-    low: 0,
-    high: 16_383,
-};
+const SLOT: Span = Span(0, 16_383);
 
-const LENGTH: Span = Span {
-    low: 1,
-    high: 16_384,
-};
+const LENGTH: Span = Span(1, 16_384);
 
-const TASK: Span = Span { low: 1, high: 64 };
+const TASK: Span = Span(1, 64);
 
-const TASK_SLOT: Span = Span {
-    low: 0,
-    high: 131_071,
-};
+const TASK_SLOT: Span = Span(0, 131_071);
 
-const WORD: Span = Span { low: 0, high: 511 };
+const WORD: Span = Span(0, 511);
 
-const VALUE: Span = Span {
-    low: 0,
-    high: u64::MAX,
-};
+const VALUE: Span = Span(0, u64::MAX);
 
-const STEPS: Span = Span {
-    low: 1,
-    high: 100_000,
-};
+const STEPS: Span = Span(1, 100_000);
 
-const CALL: Span = Span {
-    low: 1,
-    high: 1_000_000,
-};
+const CALL: Span = Span(1, 1_000_000);
 
-const CALLS: Span = Span {
-    low: 0,
-    high: 1_000_000,
-};
+const CALLS: Span = Span(0, 1_000_000);
 
 /// What a line says.
 #[derive(Clone, Copy)]

@@ -3,12 +3,9 @@ ghost use Rattle.script.specs.Shapes.{all_numbers, number_in, number_of, texts, 
 
 use crate::fault::FaultKind;
 
-/// The numbers that a place may have, both ends included.
+/// The numbers that a place may have: the lowest one and the highest one.
 #[derive(Clone, Copy)]
-pub struct Span {
-    pub low: u64,
-    pub high: u64,
-}
+pub struct Span(pub u64, pub u64);
 
 /// Reads a word of decimal digits as a number of at most 64 bits. Leading zeros are allowed.
 pub fn number_of(word: &[u8]) -> Option<u64>
@@ -34,10 +31,10 @@ fn number_in(word: &[u8], span: Span) -> Result<u64, FaultKind>
     ensures { result ≡ number_in span word.now }
 {
     let n = number_of(word).ok_or(FaultKind::Number)?;
-    if n < span.low {
+    if n < span.0 {
         return Err(FaultKind::Range);
     }
-    if span.high < n {
+    if span.1 < n {
         return Err(FaultKind::Range);
     }
     Ok(n)

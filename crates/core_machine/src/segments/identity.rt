@@ -17,23 +17,7 @@ use crate::segments::numbers::word;
 use crate::segments::table::ProgramHeader;
 use byte_streams::Source;
 use definitions::Ident;
-
-/// EM_386 to EM_LOONGARCH.
-const I386: u16 = 3;
-
-const PPC64: u16 = 21;
-
-const S390: u16 = 22;
-
-const ARM: u16 = 40;
-
-const X86_64: u16 = 62;
-
-const AARCH64: u16 = 183;
-
-const RISCV: u16 = 243;
-
-const LOONGARCH: u16 = 258;
+use elf_core::machines::{AARCH64, ARM, I386, LOONGARCH, PPC64, RISCV, S390, X86_64};
 
 /// `PT_NOTE`.
 const PT_NOTE: u32 = 4;

@@ -9,7 +9,8 @@ use crate::Heading;
 use crate::dump::headed::heading_of;
 use image_check::{Finding, Report, mark_in};
 use image_format::{AreaKind, Mark};
-use image_pages::frames::{Numbers, OpenedNumbers};
+use image_pages::frames::Numbers;
+use image_pages::{Opened, Reader};
 use page_core::{NoMemory, Page};
 use sector_disk::Disk;
 use std::alloc::Global;
@@ -56,9 +57,9 @@ pub(crate) fn begin<D: Disk, R: Report>(
         Marked::Block(block, mark) => (block, mark),
     };
     match Numbers::open(alloc, disk, header, report)? {
-        OpenedNumbers::NoImage => Ok(Begun::NoImage),
-        OpenedNumbers::Refused => Ok(Begun::Refused),
-        OpenedNumbers::Open(numbers) => Ok(opened(&block, &mark, numbers)),
+        Opened::NoImage => Ok(Begun::NoImage),
+        Opened::Refused => Ok(Begun::Refused),
+        Opened::Open(numbers) => Ok(opened(&block, &mark, numbers)),
     }
 }
 

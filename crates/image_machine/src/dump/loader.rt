@@ -9,7 +9,8 @@ use crate::dump::begun::{Begun, begin};
 use crate::dump::made::{Asked, Made};
 use crate::{Layout, Plan, Stop};
 use image_check::Report;
-use image_pages::frames::{Numbers, OpenedNumbers};
+use image_pages::frames::Numbers;
+use image_pages::{Opened, Reader};
 use page_core::NoMemory;
 use sector_disk::Disk;
 use std::alloc::Global;
@@ -89,9 +90,9 @@ fn follow<D: Disk, R: Report>(
     ensures blocks { D.block_count disk.new ≡ D.block_count disk.old }
 {
     let mut numbers = match Numbers::open(alloc, disk, header, report)? {
-        OpenedNumbers::NoImage => return Ok(Made::NoImage),
-        OpenedNumbers::Refused => return Ok(Made::Refused),
-        OpenedNumbers::Open(numbers) => numbers,
+        Opened::NoImage => return Ok(Made::NoImage),
+        Opened::Refused => return Ok(Made::Refused),
+        Opened::Open(numbers) => numbers,
     };
     match add_all(&mut plan, &mut numbers, disk, report) {
         Added::All => {}

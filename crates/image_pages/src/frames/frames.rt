@@ -1,7 +1,8 @@
 ghost use Rattle.std.specs.Prelude.{◌≡◌, ◌≤◌, ℕ, List, ◌∷◌};
 ghost use Rattle.image_pages.specs.Turns.{Ends, IsFull};
 
-use crate::frames::numbers::{NextWord, Numbers, OpenedNumbers};
+use crate::frames::numbers::{NextWord, Numbers};
+use crate::opened::{Opened, Reader};
 use crate::{Pages, read_ahead, read_page};
 use definitions::number_page_count;
 use image_check::Report;
@@ -22,16 +23,6 @@ pub struct Frames {
     left: u64,
 }
 
-/// The result of opening an image.
-#[derive(Drop)]
-pub enum Opened {
-    /// The header block, if the disk has it, isn't marked.
-    NoImage,
-    /// The header block, the info page or a number page has findings; those of the first one were reported.
-    Refused,
-    Open(Frames),
-}
-
 /// The next result.
 #[derive(Clone, Copy, Debug, PartialEq, Eq)]
 pub enum Next {
@@ -43,35 +34,27 @@ pub enum Next {
     Refused,
 }
 
-impl Frames {
-    ghost use Rattle.std.specs.Prelude.{◌≡◌, ◌≤◌, ℕ, List, [], Option, IfOk, OnErr};
-    ghost use Rattle.definitions.specs.Disk.{Content};
-    ghost use Rattle.definitions.specs.InfoPage.{info_of};
-    ghost use Rattle.image_pages.specs.Chain.{IsChainPage};
-    ghost use Rattle.image_pages.specs.Given.{HasGiven, HasPassed};
-    ghost use Rattle.image_pages.specs.OpensFrames.{Opens};
-    ghost use Rattle.image_pages.specs.SavedFrames.{SavedFrame};
-    ghost use Rattle.image_pages.specs.Says.{Says};
+impl Reader for Frames {
+    ghost use Rattle.image_pages.specs.Opens.{IsBad};
+    ghost use Rattle.image_pages.specs.OpensFrames.{BeginsFrames};
 
-    /// Opens the image of the area whose header lies in block `header`, and reads it up to its last number page.
-    pub fn open<D: Disk, R: Report>(
+    ghost begins = { BeginsFrames };
+
+    ghost refuses = { IsBad };
+
+    ghost is_bad = { λ content blocks header before now told then bad. bad };
+
+    /// Reads the image up to its last number page.
+    fn open<D: Disk, R: Report>(
         alloc: Global,
         disk: &mut D,
         header: u32,
         report: &mut R,
-    ) -> Result<Opened, NoMemory>
-        ensures opened { IfOk result (Opens (D.content disk.old) (D.block_count disk.old) header
-            (D.faults disk.old) (D.faults disk.new) (R.told report.old) (R.told report.new)) }
-        ensures untold { OnErr result (R.told report.new ≡ R.told report.old) }
-        ensures content { D.content disk.new ≡ D.content disk.old }
-        ensures faults { D.faults disk.old ≤ D.faults disk.new }
-        ensures orders { D.orders disk.new ≡ D.orders disk.old }
-        ensures blocks { D.block_count disk.new ≡ D.block_count disk.old }
-    {
+    ) -> Result<Opened<Frames>, NoMemory> {
         let numbers = match Numbers::open(alloc, disk, header, report)? {
-            OpenedNumbers::NoImage => return Ok(Opened::NoImage),
-            OpenedNumbers::Refused => return Ok(Opened::Refused),
-            OpenedNumbers::Open(numbers) => numbers,
+            Opened::NoImage => return Ok(Opened::NoImage),
+            Opened::Refused => return Ok(Opened::Refused),
+            Opened::Open(numbers) => numbers,
         };
         let mut pages = numbers.pages_ahead()?;
         let number_pages = number_page_count(numbers.count());
@@ -81,6 +64,16 @@ impl Frames {
         }
         Ok(Opened::Open(Frames::of(numbers, pages)))
     }
+}
+
+impl Frames {
+    ghost use Rattle.std.specs.Prelude.{◌≡◌, ◌≤◌, ℕ, List, [], Option, IfOk, OnErr};
+    ghost use Rattle.definitions.specs.Disk.{Content};
+    ghost use Rattle.definitions.specs.InfoPage.{info_of};
+    ghost use Rattle.image_pages.specs.Chain.{IsChainPage};
+    ghost use Rattle.image_pages.specs.Given.{HasGiven, HasPassed};
+    ghost use Rattle.image_pages.specs.SavedFrames.{SavedFrame};
+    ghost use Rattle.image_pages.specs.Says.{Says};
 
     /// Makes a reader from numbers of which none was given, and the pages after all number pages.
     pub fn of(numbers: Numbers, pages: Pages) -> Frames

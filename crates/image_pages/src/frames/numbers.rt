@@ -3,7 +3,8 @@ ghost use Rattle.image_pages.specs.Stands.{Stands};
 ghost use Rattle.image_pages.specs.OpensFrames.{OpensNumbers};
 ghost use Rattle.image_pages.specs.Turns.{IsAtNumber, Turns};
 
-use crate::{Opened, Pages, frame_of, has_page, read_ahead, read_page};
+use crate::opened::{Opened, Reader};
+use crate::{Pages, frame_of, has_page, read_ahead, read_page};
 use definitions::{WORDS_PER_PAGE, number_page_count};
 use image_check::{Counts, Report};
 use image_format::info::{Info, decode};
@@ -28,16 +29,6 @@ pub struct Numbers {
     listed: Page,
 }
 
-/// The result of opening an image.
-#[derive(Drop)]
-pub enum OpenedNumbers {
-    /// The header block, if the disk has it, isn't marked.
-    NoImage,
-    /// The header block or the info page has findings, which were reported.
-    Refused,
-    Open(Numbers),
-}
-
 /// The next result.
 #[derive(Clone, Copy, Debug, PartialEq, Eq)]
 pub enum NextNumber {
@@ -57,6 +48,31 @@ pub(crate) enum NextWord {
     Refused,
 }
 
+impl Reader for Numbers {
+    ghost use Rattle.image_pages.specs.Opens.{IsBad};
+    ghost use Rattle.image_pages.specs.OpensFrames.{BeginsNumbers};
+
+    ghost begins = { BeginsNumbers };
+
+    ghost refuses = { IsBad };
+
+    ghost is_bad = { λ content blocks header before now told then bad. bad };
+
+    /// Reads the header block and the info page.
+    fn open<D: Disk, R: Report>(
+        alloc: Global,
+        disk: &mut D,
+        header: u32,
+        report: &mut R,
+    ) -> Result<Opened<Numbers>, NoMemory> {
+        match Pages::open(alloc, disk, header, report)? {
+            Opened::NoImage => Ok(Opened::NoImage),
+            Opened::Refused => Ok(Opened::Refused),
+            Opened::Open(pages) => Ok(begin(pages, disk, report)),
+        }
+    }
+}
+
 impl Numbers {
     ghost use Rattle.std.specs.Prelude.{◌≡◌, ◌≤◌, ℕ, List, [], Option, IfOk, OnErr};
     ghost use Rattle.definitions.specs.Disk.{Content};
@@ -66,33 +82,10 @@ impl Numbers {
     ghost use Rattle.image_pages.specs.Stands.{Stands};
     ghost use Rattle.image_pages.specs.Ahead.{HasInfo};
     ghost use Rattle.image_pages.specs.Numbered.{HasNumbered};
-    ghost use Rattle.image_pages.specs.OpensFrames.{OpensNumbers};
     ghost use Rattle.image_pages.specs.Numbered.{HasTooMany};
     ghost use Rattle.image_pages.specs.SaysNumber.{SaysNumber};
     ghost use Rattle.image_pages.specs.SaysWord.{SaysWord};
     ghost use Rattle.image_pages.specs.Ends.{IsRefused};
-
-    /// Opens the image of the area whose header lies in block `header`, and reads its info page.
-    pub fn open<D: Disk, R: Report>(
-        alloc: Global,
-        disk: &mut D,
-        header: u32,
-        report: &mut R,
-    ) -> Result<OpenedNumbers, NoMemory>
-        ensures opened { IfOk result (OpensNumbers (D.content disk.old) (D.block_count disk.old) header
-            (D.faults disk.old) (D.faults disk.new) (R.told report.old) (R.told report.new)) }
-        ensures untold { OnErr result (R.told report.new ≡ R.told report.old) }
-        ensures content { D.content disk.new ≡ D.content disk.old }
-        ensures faults { D.faults disk.old ≤ D.faults disk.new }
-        ensures orders { D.orders disk.new ≡ D.orders disk.old }
-        ensures blocks { D.block_count disk.new ≡ D.block_count disk.old }
-    {
-        match Pages::open(alloc, disk, header, report)? {
-            Opened::NoImage => Ok(OpenedNumbers::NoImage),
-            Opened::Refused => Ok(OpenedNumbers::Refused),
-            Opened::Open(pages) => Ok(begin(pages, disk, report)),
-        }
-    }
 
     /// Makes a reader that begins after the info page of an image, which says this.
     pub fn of(info: Page, counts: Counts, pages: Pages) -> Numbers
@@ -209,7 +202,7 @@ impl Numbers {
 }
 
 /// Begins to read an image of which nothing was read yet.
-fn begin<D: Disk, R: Report>(mut pages: Pages, disk: &mut D, report: &mut R) -> OpenedNumbers
+fn begin<D: Disk, R: Report>(mut pages: Pages, disk: &mut D, report: &mut R) -> Opened<Numbers>
     requires { (header : ℕ) × Stands (D.content disk.old) (D.block_count disk.old) header pages [] }
     ensures opened { (header : ℕ) → Stands (D.content disk.old) (D.block_count disk.old) header pages [] →
         OpensNumbers (D.content disk.old) (D.block_count disk.old) header
@@ -221,12 +214,12 @@ fn begin<D: Disk, R: Report>(mut pages: Pages, disk: &mut D, report: &mut R) -> 
 {
     let mut info = Page::zero();
     if !read_page(&mut pages, disk, report, &mut info) {
-        return OpenedNumbers::Refused;
+        return Opened::Refused;
     }
     let Some(counts) = pages.counts() else {
         unreachable!()
     };
-    OpenedNumbers::Open(Numbers::of(info, counts, pages))
+    Opened::Open(Numbers::of(info, counts, pages))
 }
 
 /// Reads up to the number page of the next number, if that isn't the page of the last one, and returns whether it was

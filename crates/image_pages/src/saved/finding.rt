@@ -5,7 +5,7 @@ ghost use Rattle.image_pages.specs.Ahead.{GivesMore, GivesOne, HasInfo, HasMore,
 ghost use Rattle.image_pages.specs.Found.{Finds};
 
 use crate::saved::words::{data_words, find_word, has_page};
-use crate::{Next, Opened, Pages};
+use crate::{Next, Opened, Pages, Reader};
 use definitions::{WORDS_PER_PAGE, number_page_count};
 use image_check::{Counts, Report};
 use page_core::{Format, NoMemory, Page};

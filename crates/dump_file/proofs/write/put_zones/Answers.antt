@@ -21,12 +21,12 @@ loop-start-preserved c =
     let so_far = flat_map zone_bytes (take j zones) in
     record {
       bytes =
-          zone_more c.args.head.now c.put_number.new.self c.put_number-in-loop-start.new.self (number_bytes zone.0) (number_bytes zone.1) so_far
-          (c.put_number.ensures.added ∙ ap (λ (xs : List ℕ). xs ++ number_bytes zone.0) c.loop-start.invariant.bytes)
-          c.put_number-in-loop-start.ensures.added
+          zone_more c.args.head.now c.add_number.new.head c.add_number-in-loop-start.new.head (number_bytes zone.0) (number_bytes zone.1) so_far
+          (c.add_number.ensures.added ∙ ap (λ (xs : List ℕ). xs ++ number_bytes zone.0) c.loop-start.invariant.bytes)
+          c.add_number-in-loop-start.ensures.added
           ∙ ap (λ (z : ℕ × ℕ). c.args.head.now ++ (so_far ++ zone_bytes z)) (sym at.zone_is)
           ∙ ap (λ (xs : List ℕ). c.args.head.now ++ xs) (sym (flat_map-take_more zone_bytes zones j (0, 0) at.within));
-      len = omega (arith, c.put_number.ensures.len, c.put_number-in-loop-start.ensures.len, c.loop-start.invariant.len);
+      len = omega (arith, c.add_number.ensures.len, c.add_number-in-loop-start.ensures.len, c.loop-start.invariant.len);
     }
 
 pub returns-clause-bytes : goal.returns-clause-bytes

@@ -4,7 +4,7 @@ use Rattle.definitions.specs.Disk.{Content}
 use Rattle.image_check.specs.Told.{Told}
 use Rattle.image_pages.specs.Opens.{Opens}
 use Rattle.image_pages.specs.Stands.{Stands}
-use Rattle.image_pages.specs.declared.pages.Opened.{Opened}
+use Rattle.image_pages.specs.declared.opened.Opened.{Opened}
 use Rattle.image_pages.specs.declared.pages.Pages.{Pages}
 use Rattle.image_stream.specs.Streamed.{IsFront, IsStopped, IsStreamed}
 use Rattle.image_stream.specs.declared.streaming.Stop.{Stop}

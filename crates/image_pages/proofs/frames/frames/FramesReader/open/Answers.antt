@@ -13,7 +13,7 @@ use Rattle.image_pages.specs.OpensFrames.{OpensNumbers}
 use Rattle.image_pages.proofs.Giving.{passed_over}
 use Rattle.image_pages.proofs.Opening.{ahead_stands, enough_ahead}
 use Rattle.image_pages.proofs.Since.{on_err_any}
-use Rattle.image_pages.proofs.frames.frames.Frames.open.Goals as goal
+use Rattle.image_pages.proofs.frames.frames.FramesReader.open.Goals as goal
 
 pub read_ahead-requires : goal.read_ahead-requires
 read_ahead-requires g c =

@@ -2,7 +2,7 @@ use Rattle.std.proofs.Common.{[], sym, subst}
 use Rattle.image_pages.specs.Opens.{Opens}
 use Rattle.image_pages.proofs.SinceSaved.{stands_since}
 use Rattle.image_pages.proofs.Since.{numbers_open_since}
-use Rattle.image_pages.proofs.frames.numbers.Numbers.open.Goals as goal
+use Rattle.image_pages.proofs.frames.numbers.NumbersReader.open.Goals as goal
 
 pub begin-requires : goal.begin-requires
 begin-requires g c =

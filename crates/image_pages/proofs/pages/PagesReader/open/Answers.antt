@@ -3,7 +3,7 @@ use Rattle.std.specs.Result.{is_err}
 use Rattle.image_check.specs.Checked.{mark_in}
 use Rattle.image_pages.specs.Stands.{Stands}
 use Rattle.image_pages.specs.declared.pages.Pages.{Pages}
-use Rattle.image_pages.proofs.pages.Pages.open.Goals as goal
+use Rattle.image_pages.proofs.pages.PagesReader.open.Goals as goal
 
 on_ok : {T E P : Type 0} (r : Result T E) (b : Bool) → b ≡ false → b ≡ is_err r → OnOk r P → P
 on_ok (Ok v) b f e h = h
