@@ -8,7 +8,7 @@
 # empty script, for a line that claims a page frame, for a line that shows a word, for the parse of that line only, and for a hibernation and
 # a resume of 1,500 page frames. Last it measures the time of a boot, a hibernation and a resume of 15,000 page frames at a script's limits. The
 # programs are the first and the second word, or crates/swsusp/out/swsusp and crates/swsusp_image/out/swsusp_image, which `rt run` leaves.
-# Without valgrind it says so and counts nothing.
+# Each of the first four commands is counted too, with 3,000 page frames, beside the C program. Without valgrind it says so and counts nothing.
 set -u
 top=$(cd "$(dirname "$0")/.." && pwd)
 program=${1:-$top/crates/swsusp/out/swsusp}
@@ -175,6 +175,32 @@ instructions() {
 count() {
     instructions "$program" replay <"$room/$1"
 }
+
+# Prints the instructions of a command on $2 beside those of the C program. The words after these are the command's, where AREA is an area of its own.
+# What standard output got stays in the file $1.
+beside_c() {
+    left=$1 source=$2
+    shift 2
+    for who in own c; do
+        made=$program
+        [ "$who" = own ] || made=$room/bench
+        GLIBC_TUNABLES=glibc.cpu.hwcaps=-ERMS valgrind --tool=callgrind --callgrind-out-file=/dev/null "$made" \
+            $(printf '%s ' "$@" | sed "s|AREA|$room/image_$who|") 2>"$room/counted" <"$source" >"$left" || exit 1
+        eval "$who=$(sed -n 's/.*Collected *: *//p' "$room/counted")"
+    done
+    awk -v name="$1" -v own="$own" -v c="$c" 'BEGIN { printf "%s of 3000 page frames: %d instructions, in C %d, ratio %.2f\n", name, own, c, own / c }'
+}
+
+if [ -x "$room/bench" ]; then
+    python3 "$top/tools/make_dump.py" saved 3000 >"$room/saved"
+    python3 "$top/tools/make_dump.py" loader 3000 >"$room/loader"
+    for who in own c; do sh "$top/tools/make_area.sh" "$room/image_$who" 131071; done
+    beside_c "$room/line" "$room/saved" hibernate AREA
+    beside_c "$room/restored" "$room/loader" resume AREA
+    beside_c "$room/stream" "$room/saved" export
+    for who in own c; do sh "$top/tools/make_area.sh" "$room/image_$who" 131071; done
+    beside_c "$room/line" "$room/stream" import AREA
+fi
 
 # 1,500 page frames of a task and the 7 of the tables: 1,511 pages, 3 maps, and 4 steps more.
 steps=1518
