@@ -1,5 +1,5 @@
 -- A writer at a page of the stream.
-use Rattle.std.proofs.Common.{ℕ, ◌+◌, ◌%◌, ◌<◌, ◌≤◌, eqb, List, length, Option, None, Result, Ok, Err, IfOk, sym, ap, ◌∙◌, subst, arith}
+use Rattle.std.proofs.Common.{◌≡◌, ℕ, ◌+◌, ◌%◌, ◌<◌, ◌≤◌, eqb, List, length, Option, Some, None, IsSomeAnd, Result, Ok, Err, OnOk, sym, ap, ◌∙◌, subst, arith}
 use Rattle.std.proofs.lemmas.Bool.{or_from, ne_eqb}
 use Rattle.swap_slots.specs.declared.table.SlotTable.{SlotTable}
 use Rattle.swap_slots.specs.Table.{free_in}
@@ -50,8 +50,13 @@ has_put free frames f table extents blocks page old w new at put =
       first = put.image.first ∙ at.first_is;
     }
 
--- the same for the result of a begin
-pub at_begun : (free : List ℕ) (old frames : List (List ℕ)) (table : SlotTable) (extents : List (ℕ × ℕ × ℕ)) (blocks : ℕ) (page : List ℕ) (r : Result Writing InStop) → CanBegin free old table extents blocks page →
-    IfOk r (λ w. HasBegun (info_of page) extents table (free_in old table) frames w) → IfOk r (λ w. all_pages page + 1026 ≤ length (free_in old table)) → IfOk r (λ w. IsAtPage free frames table extents blocks page None w)
-at_begun free old frames table extents blocks page (Ok w) can begun room = at_first free old frames table extents blocks page w can begun room
-at_begun free old frames table extents blocks page (Err why) can begun room = tt
+-- the same for the result of a begin, and where the writer stands then
+pub at_begun : (free : List ℕ) (old frames : List (List ℕ)) (table : SlotTable) (extents : List (ℕ × ℕ × ℕ)) (blocks : ℕ) (page : List ℕ) (new : Option Writing) (r : Result (Unit {0}) InStop) → CanBegin free old table extents blocks page →
+    OnOk r (IsSomeAnd new (λ w. HasBegun (info_of page) extents table (free_in old table) frames w)) → OnOk r (all_pages page + 1026 ≤ length (free_in old table)) → OnOk r (IsSomeAnd new (λ w. IsAtPage free frames table extents blocks page None w))
+at_begun free old frames table extents blocks page (Some w) (Ok u) can begun room = at_first free old frames table extents blocks page w can begun room
+at_begun free old frames table extents blocks page None (Ok u) can begun room = absurd begun
+at_begun free old frames table extents blocks page new (Err why) can begun room = tt
+
+-- a writer that is there is at its page
+pub at_some : (free : List ℕ) (frames : List (List ℕ)) (table : SlotTable) (extents : List (ℕ × ℕ × ℕ)) (blocks : ℕ) (page : List ℕ) (old o : Option Writing) (w : Writing) → o ≡ Some w → IsSomeAnd o (λ next. IsAtPage free frames table extents blocks page old next) → IsAtPage free frames table extents blocks page old w
+at_some free frames table extents blocks page old o w is at = subst (λ (x : Option Writing). IsSomeAnd x (λ next. IsAtPage free frames table extents blocks page old next)) is at

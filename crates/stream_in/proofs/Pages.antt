@@ -1,5 +1,5 @@
 -- What is on the disk of a stream, as bytes of one page come.
-use Rattle.std.proofs.Common.{◌≡◌, ◌⊎◌, ℕ, ◌+◌, ◌-◌, ◌*◌, ◌/◌, ◌%◌, ◌<◌, ◌≤◌, true, eqb, List, [], ◌++◌, append-nil, length, take, drop, get_or, Option, Some, None, refl, sym, ap, ap₂, ◌∙◌, subst, inl, inr, arith, length-append, length-drop}
+use Rattle.std.proofs.Common.{◌≡◌, ◌⊎◌, ℕ, ◌+◌, ◌-◌, ◌*◌, ◌/◌, ◌%◌, ◌<◌, ◌≤◌, true, eqb, List, [], ◌++◌, append-nil, length, take, drop, get_or, Option, Some, None, IsSomeAnd, refl, sym, ap, ap₂, ◌∙◌, subst, inl, inr, arith, length-append, length-drop}
 use Rattle.std.proofs.lemmas.Bool.{cases_eq, or_left, eq-eqb}
 use Rattle.std.proofs.lemmas.List.{take-append-le, drop-append-le, length-take-le, get_or-take, get_or-drop}
 use Rattle.std.proofs.lemmas.Grind.{same_number_lists}
@@ -11,11 +11,11 @@ use Rattle.plain_machine.specs.Image.{is_map_write, page_of_write}
 use Rattle.image_write.specs.Writing.{Writing}
 use Rattle.stream_in.specs.Grammar.{all_pages, first_fault}
 use Rattle.stream_in.proofs.Steps.{all_pages-append, sound_from}
-use Rattle.stream_in.specs.Putting.{pages_in, pages_written, writes_made}
+use Rattle.stream_in.specs.Putting.{HasPut, Suffice, pages_in, pages_written, writes_made}
 use Rattle.stream_in.specs.Session.{IsOutput, IsBegun}
 use Rattle.stream_in.specs.Holding.{ReadAsMade, MakesMore, page_at, AreWritten, WritesOn, writes_after}
 use Rattle.stream_in.proofs.Laying.{same_write}
-use Rattle.stream_in.proofs.Sessions.{IsFull, first_info, sound_full, some_written}
+use Rattle.stream_in.proofs.Sessions.{IsFull, first_info, sound_full, some_written, has_output}
 
 page_at-append : (bs part : List ℕ) (i : ℕ) → 4096 * i + 4096 ≤ length bs → page_at (bs ++ part) i ≡ page_at bs i
 page_at-append bs part i h =
@@ -85,7 +85,7 @@ page_count free bs part page frames table extents (Some w) full out =
     omega arith
 
 -- with a full page more is written
-pub written_full : (free bs part page : List ℕ) (old frames : List (List ℕ)) (table : SlotTable) (extents : List (ℕ × ℕ × ℕ)) (w : Option Writing) (new : Writing) → IsFull bs part page → IsOutput free bs old table extents w → IsBegun free (bs ++ part) frames table extents new →
+written_full : (free bs part page : List ℕ) (old frames : List (List ℕ)) (table : SlotTable) (extents : List (ℕ × ℕ × ℕ)) (w : Option Writing) (new : Writing) → IsFull bs part page → IsOutput free bs old table extents w → IsBegun free (bs ++ part) frames table extents new →
     (x y : Content) → MakesMore extents free (pages_in page w) (page_at (bs ++ part)) (writes_made w) new.written x y → WritesOn extents free bs part x y
 written_full free bs part page old frames table extents None new full out begun x y makes written late =
     let info = first_info bs part page full out.early in
@@ -106,6 +106,14 @@ written_full free bs part page old frames table extents (Some w) new full out be
     let made = read_same extents free (all_pages bs) w.info.pages (k + k / 511) w.written (page_at (bs ++ part)) (as_it_reads x) (sym out.pages) (sym (out.written ∙ some_written (all_pages bs) k below)) more in
     read_same extents free w.info.pages (all_pages (bs ++ part)) new.written (writes_after (all_pages (bs ++ part)) (length (bs ++ part) / 4096)) (page_at (bs ++ part)) (as_it_reads y)
     (out.pages ∙ sym count) begun.written (makes made)
+
+-- and where the writer stands after it
+pub written_on : (free bs part page : List ℕ) (old frames : List (List ℕ)) (table : SlotTable) (extents : List (ℕ × ℕ × ℕ)) (w new : Option Writing) → IsFull bs part page → IsOutput free bs old table extents w →
+    IsSomeAnd new (λ next. HasPut free frames table extents page w next) → Suffice free page w →
+    (x y : Content) → MakesMore extents free (pages_in page w) (page_at (bs ++ part)) (writes_made w) (writes_made new) x y → WritesOn extents free bs part x y
+written_on free bs part page old frames table extents w None full out put enough = absurd put
+written_on free bs part page old frames table extents w (Some next) full out put enough =
+    written_full free bs part page old frames table extents w next full out (has_output free bs part page old frames table extents w next full out put enough)
 
 -- where the stream goes on without a fault, it isn't whole
 pub goes_on : (bs part : List ℕ) → first_fault (bs ++ part) ≡ None → 0 < length part → 4096 ≤ length bs → length bs < 4096 * all_pages bs

@@ -1,5 +1,5 @@
 -- A session as bytes of one page come.
-use Rattle.std.proofs.Common.{◌≡◌, ℕ, ◌+◌, ◌-◌, ◌/◌, ◌%◌, ◌<◌, ◌≤◌, ◌^◌, eqb, List, ◌++◌, length, take, drop, get_or, Option, Some, None, refl, sym, ap, ap₂, subst, ◌∙◌, inl, inr, arith, length-append, append_assoc, zero-add}
+use Rattle.std.proofs.Common.{◌≡◌, ℕ, ◌+◌, ◌-◌, ◌/◌, ◌%◌, ◌<◌, ◌≤◌, ◌^◌, eqb, List, ◌++◌, length, take, drop, get_or, Option, Some, None, IsSomeAnd, refl, sym, ap, ap₂, subst, ◌∙◌, inl, inr, arith, length-append, append_assoc, zero-add}
 use Rattle.std.proofs.Math.Seq.{take-add}
 use Rattle.std.proofs.lemmas.List.{take-append-le, take-append-drop, length-take-le, get_or-take, get_or_append_left, get_or-append_right, take_all}
 use Rattle.std.proofs.lemmas.Bool.{cases_lt, cond-false, ne_eqb, or_from}
@@ -188,6 +188,11 @@ has_output free bs part page old frames table extents (Some w) new full out put 
       extents_are = put.extents_are;
       first = put.first ∙ out.first;
     }
+
+pub output_full : (free bs part page : List ℕ) (old frames : List (List ℕ)) (table : SlotTable) (extents : List (ℕ × ℕ × ℕ)) (w new : Option Writing) → IsFull bs part page → IsOutput free bs old table extents w →
+    IsSomeAnd new (λ next. HasPut free frames table extents page w next) → Suffice free page w → IsOutput free (bs ++ part) frames table extents new
+output_full free bs part page old frames table extents w None full out put enough = absurd put
+output_full free bs part page old frames table extents w (Some next) full out put enough = has_output free bs part page old frames table extents w next full out put enough
 
 -- Too few slots are free for the image.
 pub too_few : (free bs part page : List ℕ) (frames : List (List ℕ)) (table : SlotTable) (extents : List (ℕ × ℕ × ℕ)) (w : Option Writing) (told need : ℕ) → IsFull bs part page → IsOutput free bs frames table extents w → HasTooFew free page w told need → HasTooFewFor free (bs ++ part) told need

@@ -1,7 +1,7 @@
 -- How far the pages of a stream are written. A page is written when it is full, with the map that it fills; the last
 -- map follows the last page.
 use Rattle.std.specs.Prelude.{◌≡◌, ◌<◌, ◌≤◌, ◌==◌, ℕ, ◌+◌, ◌%◌, ◌^◌, ◌||◌, Bool, false, IsTrue, List, length}
-use Rattle.std.specs.Prelude.{Option, Some, None, ⊤, Result, Err, IfOk, IfErr}
+use Rattle.std.specs.Prelude.{Option, Some, None, ⊤, Result, Err, IsSomeAnd, OnOk, OnErr}
 use Rattle.definitions.specs.Disk.{Content, Changes}
 use Rattle.swap_slots.specs.Table.{free_in}
 use Rattle.swap_slots.specs.declared.table.SlotTable.{SlotTable}
@@ -93,19 +93,20 @@ pub record HasTooFew (free : List ℕ) (page : List ℕ) (old : Option Writing) 
   pub told_need : need ≡ all_pages page + SPARE_SLOTS
   pub fewer : told < need
 
--- What the put of a full page reports if the page can be put and these slots are free: the page is written, if the
--- slots suffice, and only to their blocks; or they are too few, or a call of the disk failed.
+-- What the put of a full page reports if the page can be put and these slots are free, with the writer before and after
+-- it: the page is written, if the slots suffice, and only to their blocks; or they are too few, or a call of the disk
+-- failed.
 pub record PutsFull (free : List ℕ) (frames : List (List ℕ)) (table : SlotTable) (extents : List (ℕ × ℕ
-    × ℕ)) (page : List ℕ) (old : Option Writing) (answer : Result Writing InStop)
+    × ℕ)) (page : List ℕ) (old new : Option Writing) (answer : Result (Unit {0}) InStop)
     (before now : Option Content) : Type 0 where
-  pub put : IfOk answer (λ next. HasPut free frames table extents page old next)
-  pub enough : IfOk answer (λ next. Suffice free page old)
+  pub put : OnOk answer (IsSomeAnd new (λ next. HasPut free frames table extents page old next))
+  pub enough : OnOk answer (Suffice free page old)
   pub too_few : (told need : ℕ) → answer ≡ Err (stop.NoSlots told need) → HasTooFew free page old told need
   pub done : (pages : ℕ → List ℕ) → AreOfMap extents free → page ≡ pages (pages_written old) →
-      IfOk answer (λ next. Changes
-      (MakesMore extents free (pages_in page old) pages (writes_made old) next.written) before now)
-  pub outside : IfOk answer (λ next. Changes (PutsAtRest extents free old) before now)
-  pub stopped : IfErr answer (λ why. Changes (FailsAtRest extents free old) before now)
+      OnOk answer (Changes
+      (MakesMore extents free (pages_in page old) pages (writes_made old) (writes_made new)) before now)
+  pub outside : OnOk answer (Changes (PutsAtRest extents free old) before now)
+  pub stopped : OnErr answer (Changes (FailsAtRest extents free old) before now)
 
 -- The writer is at a page: it is the old one, or one that has just begun.
 pub record IsAtPage (free : List ℕ) (frames : List (List ℕ)) (table : SlotTable) (extents : List (ℕ × ℕ

@@ -1,5 +1,5 @@
-ghost use Rattle.std.specs.Prelude.{◌≡◌, ◌⊎◌, ℕ, ◌+◌, ◌<◌, ◌≤◌, ◌^◌, List, Err, IsErr, IsErrAnd, IfOk, IfErr, OnOk};
-ghost use Rattle.std.specs.Prelude.{OnErr, IsTrue, false, length};
+ghost use Rattle.std.specs.Prelude.{◌≡◌, ◌⊎◌, ℕ, ◌+◌, ◌<◌, ◌≤◌, ◌^◌, List, Err, IsErr, IsErrAnd, IfErr, OnOk};
+ghost use Rattle.std.specs.Prelude.{OnErr, IsSomeAnd, IsTrue, false, length};
 ghost use Rattle.definitions.specs.Disk.{Changes};
 ghost use Rattle.stream_in.specs.Outside.{IsAtRest, KeepsOutside};
 ghost use Rattle.stream_in.specs.Moments.{ElapsesAlike, ElapsesOutside};
@@ -29,26 +29,26 @@ use sector_disk::Disk;
 use swap_slots::FreeRuns;
 
 /// Writes a full page, and the maps that follow it. At the first page the writer begins, and the disk is synced before
-/// anything is written.
+/// anything is written. The writer stays where it is: a move of it copies some 5 KB.
 pub(crate) fn put_full<D: Disk>(
-    writer: Option<Writer>,
+    writer: &mut Option<Writer>,
     frames: &mut Frames,
     runs: &mut FreeRuns,
     slots: &SwapSlots,
     disk: &mut D,
     page: &Page,
-) -> Result<Writer, InStop>
+) -> Result<(), InStop>
     requires slots { HasSlots frames.old slots.now.table.now runs.old }
     requires put { (free : List ℕ)
-        × CanPut free frames.old slots.now.table.now slots.now.map.now (D.block_count disk.old) page.now writer }
+        × CanPut free frames.old slots.now.table.now slots.now.map.now (D.block_count disk.old) page.now writer.old }
 
     ensures puts { (free : List ℕ) →
-        CanPut free frames.old slots.now.table.now slots.now.map.now (D.block_count disk.old) page.now writer →
-        PutsFull free frames.new slots.now.table.now slots.now.map.now page.now writer result (D.content disk.old)
-        (D.content disk.new) }
+        CanPut free frames.old slots.now.table.now slots.now.map.now (D.block_count disk.old) page.now writer.old →
+        PutsFull free frames.new slots.now.table.now slots.now.map.now page.now writer.old writer.new result
+        (D.content disk.old) (D.content disk.new) }
     ensures stops { IfErr result (λ why. IsOfPage why) }
     ensures time { IsTrue (D.tells_moments disk.old) → (free : List ℕ) →
-        CanPut free frames.old slots.now.table.now slots.now.map.now (D.block_count disk.old) page.now writer →
+        CanPut free frames.old slots.now.table.now slots.now.map.now (D.block_count disk.old) page.now writer.old →
         ElapsesOutside slots.now.map.now free (D.moment disk.old) (D.moment disk.new) (D.left_since disk.old)
         (D.left_since disk.new) }
 
@@ -56,11 +56,12 @@ pub(crate) fn put_full<D: Disk>(
     ensures kept { KeepsSlots slots.now.table.now frames.old frames.new runs.old runs.new }
 {
     let begins = writer.is_none();
-    let mut writer = at_page(writer, frames, runs, slots, page)?;
+    at_page(writer, frames, runs, slots, page)?;
     at_rest(disk, begins)?;
-    match put_page(&mut writer, frames, runs, disk, page) {
-        WriteStep::More { .. } => Ok(writer),
-        WriteStep::Done => Ok(writer),
+    let Some(writer) = writer else { unreachable!() };
+    match put_page(writer, frames, runs, disk, page) {
+        WriteStep::More { .. } => Ok(()),
+        WriteStep::Done => Ok(()),
         WriteStep::Fault => Err(InStop::WriteFault(Left::Same)),
     }
 }
@@ -84,54 +85,57 @@ fn at_rest<D: Disk>(disk: &mut D, begins: bool) -> Result<(), InStop>
     }
 }
 
-/// Returns the writer of the image, which begins at the first page.
+/// Begins the writer of the image, if the page is the first.
 fn at_page(
-    writer: Option<Writer>,
+    writer: &mut Option<Writer>,
     frames: &mut Frames,
     runs: &mut FreeRuns,
     slots: &SwapSlots,
     page: &Page,
-) -> Result<Writer, InStop>
+) -> Result<(), InStop>
     requires slots { HasSlots frames.old slots.now.table.now runs.old }
     requires put { (free : List ℕ) × (blocks : ℕ)
-        × CanPut free frames.old slots.now.table.now slots.now.map.now blocks page.now writer }
+        × CanPut free frames.old slots.now.table.now slots.now.map.now blocks page.now writer.old }
 
     ensures ready { (free : List ℕ) (blocks : ℕ) →
-        CanPut free frames.old slots.now.table.now slots.now.map.now blocks page.now writer →
-        IfOk result (λ next. IsAtPage free frames.new slots.now.table.now slots.now.map.now blocks page.now writer
-        next) }
+        CanPut free frames.old slots.now.table.now slots.now.map.now blocks page.now writer.old →
+        OnOk result (IsSomeAnd writer.new (λ next. IsAtPage free frames.new slots.now.table.now slots.now.map.now
+        blocks page.now writer.old next)) }
     ensures too_few { (free : List ℕ) (blocks : ℕ) →
-        CanPut free frames.old slots.now.table.now slots.now.map.now blocks page.now writer →
-        (told need : ℕ) → result ≡ Err (stop.NoSlots told need) → HasTooFew free page.now writer told need }
-    ensures table { IfOk result (λ next. next.table ≡ slots.now.table.now) }
+        CanPut free frames.old slots.now.table.now slots.now.map.now blocks page.now writer.old →
+        (told need : ℕ) → result ≡ Err (stop.NoSlots told need) → HasTooFew free page.now writer.old told need }
+    ensures table { OnOk result (IsSomeAnd writer.new (λ next. next.table ≡ slots.now.table.now)) }
     ensures stops { IfErr result (λ why. IsOfPage why) }
     ensures no_fault { IfErr result (λ why. IsDiskStop why → ⊥) }
 
     ensures kept { KeepsSlots slots.now.table.now frames.old frames.new runs.old runs.new }
 {
     match writer {
-        Some(writer) => Ok(writer),
-        None => begin(frames, runs, slots, page),
+        Some(_) => Ok(()),
+        None => begin(writer, frames, runs, slots, page),
     }
 }
 
-/// Begins to write an image with this info page, if enough slots are free.
+/// Begins to write an image with this info page, if enough slots are free. Stands alone, so that only the first page
+/// makes room for a writer on the stack.
+#[inline(never)]
 fn begin(
+    writer: &mut Option<Writer>,
     frames: &mut Frames,
     runs: &mut FreeRuns,
     slots: &SwapSlots,
     page: &Page,
-) -> Result<Writer, InStop>
+) -> Result<(), InStop>
     requires slots { HasSlots frames.old slots.now.table.now runs.old }
     requires counts { HasCounts page.now }
     requires named { BlocksBelow slots.now.map.now (free_in frames.old slots.now.table.now)
         (length (free_in frames.old slots.now.table.now)) (2 ^ 32) }
 
-    ensures begun { IfOk result (λ writer.
+    ensures begun { OnOk result (IsSomeAnd writer.new (λ next.
         HasBegun (info_of page.now) slots.now.map.now slots.now.table.now (free_in frames.old slots.now.table.now)
-        frames.new writer) }
-    ensures enough { IfOk result (λ writer.
-        all_pages page.now + SPARE_SLOTS ≤ length (free_in frames.old slots.now.table.now)) }
+        frames.new next)) }
+    ensures enough { OnOk result
+        (all_pages page.now + SPARE_SLOTS ≤ length (free_in frames.old slots.now.table.now)) }
     ensures too_few { IfErr result (λ why. why ≡ stop.NoSlots (length (free_in frames.old slots.now.table.now))
         (all_pages page.now + SPARE_SLOTS)) }
     ensures fewer { IfErr result (λ why. length (free_in frames.old slots.now.table.now) < all_pages page.now +
@@ -145,7 +149,8 @@ fn begin(
     if free < need {
         return Err(InStop::NoSlots { free, need });
     }
-    Ok(Writer::begin(frames, runs, slots.table, slots.map, &info))
+    *writer = Some(Writer::begin(frames, runs, slots.table, slots.map, &info));
+    Ok(())
 }
 
 /// Writes the next page of the stream, the map that it fills, and after the last page the last map.

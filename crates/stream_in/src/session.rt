@@ -195,15 +195,14 @@ impl StreamIn {
             table: &self.table,
             map: &self.map,
         };
-        let writer = put_full(
-            self.writer.take(),
+        put_full(
+            &mut self.writer,
             &mut self.frames,
             &mut self.runs,
             &slots,
             disk,
             &page,
         )?;
-        self.writer = Some(writer);
         Ok(())
     }
 

@@ -1,20 +1,18 @@
-use Rattle.std.proofs.Common.{◌≡◌, ◌<◌, ◌++◌, refl, ℕ, ◌+◌, ◌%◌, ◌≤◌, List, length, Option, Err, sym, ap, subst, ◌∙◌, arith, rules, length-append}
+use Rattle.std.proofs.Common.{◌≡◌, ◌<◌, ◌++◌, refl, ℕ, ◌+◌, ◌%◌, ◌≤◌, List, length, Err, sym, ap, subst, ◌∙◌, arith, rules, length-append}
 use Rattle.std.proofs.lemmas.Result.{err_from_is_err_and}
 use Rattle.definitions.specs.Tables.{table_frame_count}
-use Rattle.image_write.specs.Writing.{Writing}
 use Rattle.stream_in.specs.declared.stop.InStop.TheVariants as stop
 use Rattle.stream_in.specs.declared.session.StreamIn.{StreamIn}
-use Rattle.stream_in.specs.Putting.{CanPut, Suffice, HasPut, HasTooFew}
+use Rattle.stream_in.specs.Putting.{CanPut}
 use Rattle.stream_in.specs.Session.{IsFed}
 use Rattle.stream_in.proofs.Contents.{err_same, changes_none, changes_as, on_err_any}
-use Rattle.definitions.specs.Disk.{Changes, as_it_reads}
+use Rattle.definitions.specs.Disk.{as_it_reads}
 use Rattle.stream_in.specs.Putting.{pages_in, pages_written, writes_made}
 use Rattle.stream_in.specs.Holding.{MakesMore, WritesOn, page_at}
-use Rattle.stream_in.proofs.Pages.{written_part, next_page, page_count, written_full, goes_on}
-use Rattle.stream_in.specs.Outside.{FailsAtRest, PutsAtRest}
+use Rattle.stream_in.proofs.Pages.{written_part, next_page, page_count, written_on, goes_on}
 use Rattle.stream_in.proofs.Rests.{told_full, told_no_stop, told_part, told_stop}
 use Rattle.stream_in.proofs.Moments.{outside_none}
-use Rattle.stream_in.proofs.Sessions.{IsFull, full_page, page_open, page_closed, output_open, can_put, has_output, part_suffice, too_few}
+use Rattle.stream_in.proofs.Sessions.{IsFull, full_page, page_open, page_closed, output_open, can_put, output_full, part_suffice, too_few}
 use Rattle.stream_in.proofs.session.StreamIn.take.Goals as goal
 
 -- A session has taken one list of bytes, so begun is the length of what is in the page.
@@ -75,14 +73,12 @@ put_full-requires-clause-put g c =
     c.copy_from_slice.ensures.after fed.page_is c.from_bytes-page.ensures.bytes c.from_bytes-page.ensures.page c.requires.some (c.in_ok-take.ensures.taken bs fed.taken).read.sound in
     let blocks = g.D.Disk.block_count c.args.disk.now in
     let same : s.blocks ≡ blocks = sym c.requires.blocks in
-    let P : ℕ → Type 0 = λ n. CanPut free s.frames s.table s.map n c.from_bytes-page.result c.take-2.result in
-    let Q : Option Writing → Type 0 = λ w. CanPut free s.frames s.table s.map s.blocks c.from_bytes-page.result w in
-    let can = subst P same (subst Q (sym c.take-2.ensures.value)
-    (can_put free bs c.args.part.now c.from_bytes-page.result s.frames s.table s.map s.blocks s.writer fed.few fed.count fed.on_disk full fed.output)) in
+    let P : ℕ → Type 0 = λ n. CanPut free s.frames s.table s.map n c.from_bytes-page.result s.writer in
+    let can = subst P same (can_put free bs c.args.part.now c.from_bytes-page.result s.frames s.table s.map s.blocks s.writer fed.few fed.count fed.on_disk full fed.output) in
     (free, can)
 
-pub returns-in_err-writer-clause-answer : goal.returns-in_err-writer-clause-answer
-returns-in_err-writer-clause-answer g c = record {
+pub returns-in_err-put_full-clause-answer : goal.returns-in_err-put_full-clause-answer
+returns-in_err-put_full-clause-answer g c = record {
   taken = search rules;
   stream = search rules;
   suffice = search rules;
@@ -95,14 +91,11 @@ returns-in_err-writer-clause-answer g c = record {
       c.copy_from_slice.ensures.after fed.page_is c.from_bytes-page.ensures.bytes c.from_bytes-page.ensures.page c.requires.some (c.in_ok-take.ensures.taken bs fed.taken).read.sound in
       let blocks = g.D.Disk.block_count c.args.disk.now in
       let same : s.blocks ≡ blocks = sym c.requires.blocks in
-      let P : ℕ → Type 0 = λ n. CanPut free s.frames s.table s.map n c.from_bytes-page.result c.take-2.result in
-      let Q : Option Writing → Type 0 = λ w. CanPut free s.frames s.table s.map s.blocks c.from_bytes-page.result w in
-      let can = subst P same (subst Q (sym c.take-2.ensures.value)
-      (can_put free bs c.args.part.now c.from_bytes-page.result s.frames s.table s.map s.blocks s.writer fed.few fed.count fed.on_disk full fed.output)) in
-      let p = err_from_is_err_and c.from_residual-in_err-writer.result c.from_residual-in_err-writer.ensures.1 in
-      let why : c.in_err-writer.field-0.0 ≡ stop.NoSlots told need = err_same c.from_residual-in_err-writer.result _ _ (p.1 ∙ ap Err p.2) is in
-      let R : Option Writing → Type 0 = λ w. HasTooFew free c.from_bytes-page.result w told need in
-      let few = subst R c.take-2.ensures.value ((c.put_full.ensures.puts free can).too_few told need (c.in_err-writer.was ∙ ap Err why)) in
+      let P : ℕ → Type 0 = λ n. CanPut free s.frames s.table s.map n c.from_bytes-page.result s.writer in
+      let can = subst P same (can_put free bs c.args.part.now c.from_bytes-page.result s.frames s.table s.map s.blocks s.writer fed.few fed.count fed.on_disk full fed.output) in
+      let p = err_from_is_err_and c.from_residual-in_err-put_full.result c.from_residual-in_err-put_full.ensures.1 in
+      let why : c.in_err-put_full.field-0.0 ≡ stop.NoSlots told need = err_same c.from_residual-in_err-put_full.result _ _ (p.1 ∙ ap Err p.2) is in
+      let few = (c.put_full.ensures.puts free can).too_few told need (c.in_err-put_full.was ∙ ap Err why) in
       too_few free bs c.args.part.now c.from_bytes-page.result s.frames s.table s.map s.writer told need full fed.output few;
 }
 
@@ -117,14 +110,10 @@ returns-clause-answer g c = record {
       c.copy_from_slice.ensures.after fed.page_is c.from_bytes-page.ensures.bytes c.from_bytes-page.ensures.page c.requires.some (c.in_ok-take.ensures.taken bs fed.taken).read.sound in
       let blocks = g.D.Disk.block_count c.args.disk.now in
       let same : s.blocks ≡ blocks = sym c.requires.blocks in
-      let P : ℕ → Type 0 = λ n. CanPut free s.frames s.table s.map n c.from_bytes-page.result c.take-2.result in
-      let Q : Option Writing → Type 0 = λ w. CanPut free s.frames s.table s.map s.blocks c.from_bytes-page.result w in
-      let can = subst P same (subst Q (sym c.take-2.ensures.value)
-      (can_put free bs c.args.part.now c.from_bytes-page.result s.frames s.table s.map s.blocks s.writer fed.few fed.count fed.on_disk full fed.output)) in
-      let R : Option Writing → Type 0 = λ w. HasPut free c.put_full.new.frames s.table s.map c.from_bytes-page.result w c.in_ok-writer.writer in
-      let S : Option Writing → Type 0 = λ w. Suffice free c.from_bytes-page.result w in
-      let put = subst R c.take-2.ensures.value (c.in_ok-writer.ensures.puts free can).put in
-      let enough = subst S c.take-2.ensures.value (c.in_ok-writer.ensures.puts free can).enough in
+      let P : ℕ → Type 0 = λ n. CanPut free s.frames s.table s.map n c.from_bytes-page.result s.writer in
+      let can = subst P same (can_put free bs c.args.part.now c.from_bytes-page.result s.frames s.table s.map s.blocks s.writer fed.few fed.count fed.on_disk full fed.output) in
+      let put = (c.in_ok-put_full.ensures.puts free can).put in
+      let enough = (c.in_ok-put_full.ensures.puts free can).enough in
       record {
         taken = c.in_ok-take.ensures.taken bs fed.taken;
         going = fed.going;
@@ -134,7 +123,7 @@ returns-clause-answer g c = record {
         few = fed.few;
         count = fed.count;
         on_disk = fed.on_disk;
-        output = has_output free bs c.args.part.now c.from_bytes-page.result s.frames c.put_full.new.frames s.table s.map s.writer c.in_ok-writer.writer full fed.output put enough;
+        output = output_full free bs c.args.part.now c.from_bytes-page.result s.frames c.put_full.new.frames s.table s.map s.writer c.put_full.new.writer full fed.output put enough;
       };
   stream = search rules;
   suffice = search rules;
@@ -167,8 +156,8 @@ returns-then-end-lt-PAGE-clause-writes g c = record {
   stopped = search rules;
 }
 
-pub returns-in_err-writer-clause-writes : goal.returns-in_err-writer-clause-writes
-returns-in_err-writer-clause-writes g c = record {
+pub returns-in_err-put_full-clause-writes : goal.returns-in_err-put_full-clause-writes
+returns-in_err-put_full-clause-writes g c = record {
   done = search rules;
   outside = search rules;
   stopped = λ free bs fed.
@@ -180,14 +169,11 @@ returns-in_err-writer-clause-writes g c = record {
       c.copy_from_slice.ensures.after fed.page_is c.from_bytes-page.ensures.bytes c.from_bytes-page.ensures.page c.requires.some (c.in_ok-take.ensures.taken bs fed.taken).read.sound in
       let blocks = g.D.Disk.block_count c.args.disk.now in
       let same : s.blocks ≡ blocks = sym c.requires.blocks in
-      let P : ℕ → Type 0 = λ n. CanPut free s.frames s.table s.map n c.from_bytes-page.result c.take-2.result in
-      let Q : Option Writing → Type 0 = λ w. CanPut free s.frames s.table s.map s.blocks c.from_bytes-page.result w in
-      let can = subst P same (subst Q (sym c.take-2.ensures.value)
-      (can_put free bs c.args.part.now c.from_bytes-page.result s.frames s.table s.map s.blocks s.writer fed.few fed.count fed.on_disk full fed.output)) in
+      let P : ℕ → Type 0 = λ n. CanPut free s.frames s.table s.map n c.from_bytes-page.result s.writer in
+      let can = subst P same (can_put free bs c.args.part.now c.from_bytes-page.result s.frames s.table s.map s.blocks s.writer fed.few fed.count fed.on_disk full fed.output) in
       let a = g.D.Disk.content c.args.disk.now in
       let b = g.D.Disk.content c.put_full.new.disk in
-      let R : Option Writing → Type 0 = λ w. Changes (FailsAtRest s.map free w) a b in
-      on_err_any c.from_residual-in_err-writer.result _ (told_stop free bs s.frames s.table s.map s.writer a b fed.output (subst R c.take-2.ensures.value (c.in_err-writer.ensures.puts free can).stopped));
+      on_err_any c.from_residual-in_err-put_full.result _ (told_stop free bs s.frames s.table s.map s.writer a b fed.output (c.in_err-put_full.ensures.puts free can).stopped);
 }
 
 pub returns-clause-writes : goal.returns-clause-writes
@@ -201,25 +187,18 @@ returns-clause-writes g c = record {
       c.copy_from_slice.ensures.after fed.page_is c.from_bytes-page.ensures.bytes c.from_bytes-page.ensures.page c.requires.some (c.in_ok-take.ensures.taken bs fed.taken).read.sound in
       let blocks = g.D.Disk.block_count c.args.disk.now in
       let same : s.blocks ≡ blocks = sym c.requires.blocks in
-      let P : ℕ → Type 0 = λ n. CanPut free s.frames s.table s.map n c.from_bytes-page.result c.take-2.result in
-      let Q : Option Writing → Type 0 = λ w. CanPut free s.frames s.table s.map s.blocks c.from_bytes-page.result w in
-      let can = subst P same (subst Q (sym c.take-2.ensures.value)
-      (can_put free bs c.args.part.now c.from_bytes-page.result s.frames s.table s.map s.blocks s.writer fed.few fed.count fed.on_disk full fed.output)) in
-      let R : Option Writing → Type 0 = λ w. HasPut free c.put_full.new.frames s.table s.map c.from_bytes-page.result w c.in_ok-writer.writer in
-      let S : Option Writing → Type 0 = λ w. Suffice free c.from_bytes-page.result w in
-      let put = subst R c.take-2.ensures.value (c.in_ok-writer.ensures.puts free can).put in
-      let enough = subst S c.take-2.ensures.value (c.in_ok-writer.ensures.puts free can).enough in
-      let begun' = has_output free bs c.args.part.now c.from_bytes-page.result s.frames c.put_full.new.frames s.table s.map s.writer c.in_ok-writer.writer full fed.output put enough in
+      let P : ℕ → Type 0 = λ n. CanPut free s.frames s.table s.map n c.from_bytes-page.result s.writer in
+      let can = subst P same (can_put free bs c.args.part.now c.from_bytes-page.result s.frames s.table s.map s.blocks s.writer fed.few fed.count fed.on_disk full fed.output) in
+      let put = (c.in_ok-put_full.ensures.puts free can).put in
+      let enough = (c.in_ok-put_full.ensures.puts free can).enough in
       let a = g.D.Disk.content c.args.disk.now in
       let b = g.D.Disk.content c.put_full.new.disk in
       let pages = page_at (bs ++ c.args.part.now) in
       let next : c.from_bytes-page.result ≡ pages (pages_written s.writer) =
       next_page bs c.args.part.now c.from_bytes-page.result full ∙ ap pages (page_count free bs c.args.part.now c.from_bytes-page.result s.frames s.table s.map s.writer full fed.output) in
-      let T : Option Writing → Type 0 = λ w. c.from_bytes-page.result ≡ pages (pages_written w) in
-      let U : Option Writing → Type 0 = λ w. Changes (MakesMore s.map free (pages_in c.from_bytes-page.result w) pages (writes_made w) c.in_ok-writer.writer.written) a b in
-      let made = subst U c.take-2.ensures.value ((c.in_ok-writer.ensures.puts free can).done pages of (subst T (sym c.take-2.ensures.value) next)) in
-      changes_as (MakesMore s.map free (pages_in c.from_bytes-page.result s.writer) pages (writes_made s.writer) c.in_ok-writer.writer.written) (WritesOn s.map free bs c.args.part.now) a b
-      (written_full free bs c.args.part.now c.from_bytes-page.result s.frames c.put_full.new.frames s.table s.map s.writer c.in_ok-writer.writer full fed.output begun') made;
+      let made = (c.in_ok-put_full.ensures.puts free can).done pages of next in
+      changes_as (MakesMore s.map free (pages_in c.from_bytes-page.result s.writer) pages (writes_made s.writer) (writes_made c.put_full.new.writer)) (WritesOn s.map free bs c.args.part.now) a b
+      (written_on free bs c.args.part.now c.from_bytes-page.result s.frames c.put_full.new.frames s.table s.map s.writer c.put_full.new.writer full fed.output put enough) made;
   outside = λ free bs fed.
       let s = c.args.self.now in
       let size : length s.page ≡ 4096 = search rules in
@@ -229,14 +208,11 @@ returns-clause-writes g c = record {
       c.copy_from_slice.ensures.after fed.page_is c.from_bytes-page.ensures.bytes c.from_bytes-page.ensures.page c.requires.some (c.in_ok-take.ensures.taken bs fed.taken).read.sound in
       let blocks = g.D.Disk.block_count c.args.disk.now in
       let same : s.blocks ≡ blocks = sym c.requires.blocks in
-      let P : ℕ → Type 0 = λ n. CanPut free s.frames s.table s.map n c.from_bytes-page.result c.take-2.result in
-      let Q : Option Writing → Type 0 = λ w. CanPut free s.frames s.table s.map s.blocks c.from_bytes-page.result w in
-      let can = subst P same (subst Q (sym c.take-2.ensures.value)
-      (can_put free bs c.args.part.now c.from_bytes-page.result s.frames s.table s.map s.blocks s.writer fed.few fed.count fed.on_disk full fed.output)) in
+      let P : ℕ → Type 0 = λ n. CanPut free s.frames s.table s.map n c.from_bytes-page.result s.writer in
+      let can = subst P same (can_put free bs c.args.part.now c.from_bytes-page.result s.frames s.table s.map s.blocks s.writer fed.few fed.count fed.on_disk full fed.output) in
       let a = g.D.Disk.content c.args.disk.now in
       let b = g.D.Disk.content c.put_full.new.disk in
-      let R : Option Writing → Type 0 = λ w. Changes (PutsAtRest s.map free w) a b in
-      told_full free bs c.args.part.now s.frames s.table s.map s.writer a b (omega (arith, length-append bs c.args.part.now)) fed.output (subst R c.take-2.ensures.value (c.in_ok-writer.ensures.puts free can).outside);
+      told_full free bs c.args.part.now s.frames s.table s.map s.writer a b (omega (arith, length-append bs c.args.part.now)) fed.output (c.in_ok-put_full.ensures.puts free can).outside;
   stopped = search rules;
 }
 
@@ -250,8 +226,8 @@ returns-in_err-take-clause-time g c = λ tells free bs fed. outside_none c.args.
 pub returns-then-end-lt-PAGE-clause-time : goal.returns-then-end-lt-PAGE-clause-time
 returns-then-end-lt-PAGE-clause-time g c = λ tells free bs fed. outside_none c.args.self.now.map free (g.D.Disk.moment c.args.disk.now) (g.D.Disk.left_since c.args.disk.now)
 
-pub returns-in_err-writer-clause-time : goal.returns-in_err-writer-clause-time
-returns-in_err-writer-clause-time g c = λ tells free bs fed.
+pub returns-in_err-put_full-clause-time : goal.returns-in_err-put_full-clause-time
+returns-in_err-put_full-clause-time g c = λ tells free bs fed.
     let s = c.args.self.now in
     let size : length s.page ≡ 4096 = search rules in
     let begun : c.args.begun ≡ length bs % 4096 = began s c.args.begun c.requires.session free bs fed in
@@ -260,10 +236,8 @@ returns-in_err-writer-clause-time g c = λ tells free bs fed.
     c.copy_from_slice.ensures.after fed.page_is c.from_bytes-page.ensures.bytes c.from_bytes-page.ensures.page c.requires.some (c.in_ok-take.ensures.taken bs fed.taken).read.sound in
     let blocks = g.D.Disk.block_count c.args.disk.now in
     let same : s.blocks ≡ blocks = sym c.requires.blocks in
-    let P : ℕ → Type 0 = λ n. CanPut free s.frames s.table s.map n c.from_bytes-page.result c.take-2.result in
-    let Q : Option Writing → Type 0 = λ w. CanPut free s.frames s.table s.map s.blocks c.from_bytes-page.result w in
-    let can = subst P same (subst Q (sym c.take-2.ensures.value)
-    (can_put free bs c.args.part.now c.from_bytes-page.result s.frames s.table s.map s.blocks s.writer fed.few fed.count fed.on_disk full fed.output)) in
+    let P : ℕ → Type 0 = λ n. CanPut free s.frames s.table s.map n c.from_bytes-page.result s.writer in
+    let can = subst P same (can_put free bs c.args.part.now c.from_bytes-page.result s.frames s.table s.map s.blocks s.writer fed.few fed.count fed.on_disk full fed.output) in
     c.put_full.ensures.time tells free can
 
 pub returns-clause-time : goal.returns-clause-time
@@ -276,8 +250,6 @@ returns-clause-time g c = λ tells free bs fed.
     c.copy_from_slice.ensures.after fed.page_is c.from_bytes-page.ensures.bytes c.from_bytes-page.ensures.page c.requires.some (c.in_ok-take.ensures.taken bs fed.taken).read.sound in
     let blocks = g.D.Disk.block_count c.args.disk.now in
     let same : s.blocks ≡ blocks = sym c.requires.blocks in
-    let P : ℕ → Type 0 = λ n. CanPut free s.frames s.table s.map n c.from_bytes-page.result c.take-2.result in
-    let Q : Option Writing → Type 0 = λ w. CanPut free s.frames s.table s.map s.blocks c.from_bytes-page.result w in
-    let can = subst P same (subst Q (sym c.take-2.ensures.value)
-    (can_put free bs c.args.part.now c.from_bytes-page.result s.frames s.table s.map s.blocks s.writer fed.few fed.count fed.on_disk full fed.output)) in
+    let P : ℕ → Type 0 = λ n. CanPut free s.frames s.table s.map n c.from_bytes-page.result s.writer in
+    let can = subst P same (can_put free bs c.args.part.now c.from_bytes-page.result s.frames s.table s.map s.blocks s.writer fed.few fed.count fed.on_disk full fed.output) in
     c.put_full.ensures.time tells free can
