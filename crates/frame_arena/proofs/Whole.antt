@@ -10,7 +10,7 @@ pub whole_of_page : (page : List ℕ) → IsPage page → whole page ≡ page
 unfolding whole
 whole_of_page page is = take_at page (drop (length page) zero_page) 4096 is
 
-page_of_zeros : IsPage zero_page
+pub page_of_zeros : IsPage zero_page
 unfolding zero_page
 page_of_zeros = length-replicate {A = ℕ} 4096 0
 

@@ -245,7 +245,12 @@ impl Frames {
             self.places[p as usize] = shared;
             return;
         }
-        self.pages[place as usize] = page_shared(shared);
+        // Each arm fills the page where it lies.
+        if shared == ZEROS {
+            self.pages[place as usize] = Page::zero();
+        } else {
+            self.pages[place as usize] = Page::filled(FILLER);
+        }
     }
 }
 
@@ -272,26 +277,17 @@ fn own_place(places: &mut Vec<u32>, pages: &mut Vec<Page>, p: u32) -> u32
 // no page on their stacks.
 #[cold]
 #[inline(never)]
+#[tactic(auto, unfolding(crate::specs::Places::shared_page))]
 fn push_shared(pages: &mut Vec<Page>, place: u32)
     requires shared { place < 2 }
     requires room { vec_len pages.old < vec_capacity pages.old }
     ensures pages { pages.new.items ≡ pages.old.items ++ shared_page place ∷ [] }
     ensures capacity { vec_capacity pages.new ≡ vec_capacity pages.old }
 {
-    pages.push_reserved(page_shared(place));
-}
-
-// Returns the page that page frames share in a place.
-#[tactic(auto, unfolding(crate::specs::Places::shared_page))]
-fn page_shared(place: u32) -> Page
-    requires { place < 2 }
-    ensures shared { result ≡ shared_page place }
-    ensures page { IsPage result }
-{
     if place == ZEROS {
-        Page::zero()
+        pages.push_reserved(Page::zero());
     } else {
-        Page::filled(FILLER)
+        pages.push_reserved(Page::filled(FILLER));
     }
 }
 
