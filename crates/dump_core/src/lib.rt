@@ -30,8 +30,7 @@ pub fn write_core<K: Sink>(dump: &Dump, runs: &[(u32, u32)], out: &mut K) -> Res
     ensures counted { K.faults out.old ≤ K.faults out.new }
     ensures cause { OnErr result (HasRisen (K.faults out.old) (K.faults out.new)) }
 {
-    // Reading a field tells the prover the hardware invariant.
-    let _ = dump.hw.zones();
+    dump.hw.is_hardware();
     put_head(dump.hw.ident(), runs, out)?;
     put_pages(&dump.frames, runs, out)
 }

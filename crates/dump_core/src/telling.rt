@@ -49,8 +49,7 @@ fn is_told(dump: &Dump, p: u32) -> bool
     requires valid { Contains (numbers dump.now.hw.zones) p }
     ensures { result ≡ is_told dump.now.hw dump.now.frames p }
 {
-    // Reading a field tells the prover the hardware invariant.
-    let _ = dump.hw.zones();
+    dump.hw.is_hardware();
     let (flags, _) = entry(&dump.frames, dump.hw.frame_table(), p);
     !flags.intersects(PageFlags::FREE) || !dump.frames.is_zero(p)
 }

@@ -76,6 +76,15 @@ impl Frames {
         self.places.len() as u32
     }
 
+    /// Tells the prover that each page frame has 4096 bytes and that fewer than 2^32 exist, which it knows only of page
+    /// frames that are read.
+    pub fn are_pages(&self)
+        ensures pages { All IsPage self.now }
+        ensures few { length self.now < 2 ^ 32 }
+    {
+        let _len = self.len();
+    }
+
     /// Returns the content of page frame `p`.
     pub fn page(&self, p: u32) -> &Page
         requires { p < length self.now }
@@ -84,8 +93,7 @@ impl Frames {
     {
         let place = self.places[p as usize];
         let page = &self.pages[place as usize];
-        // This tells the prover that the page is whole.
-        let _ = page.as_bytes();
+        page.is_page();
         page
     }
 
@@ -97,8 +105,7 @@ impl Frames {
     {
         let place = own_place(&mut self.places, &mut self.pages, p);
         let page = &mut self.pages[place as usize];
-        // This tells the prover that the page is whole.
-        let _ = page.as_bytes();
+        page.is_page();
         page
     }
 
@@ -160,8 +167,7 @@ impl Frames {
         ensures copied { self.new ≡ with_run self.old to (run_at n self.old from) }
         ensures len { length self.new ≡ length self.old }
     {
-        // This tells the prover that there are fewer than 2 ^ 32.
-        let _ = self.len();
+        self.are_pages();
         // Starts at the end at which no source is written before it is read.
         if to < from {
             copy_forward(self, from, to, n);

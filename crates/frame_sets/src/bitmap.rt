@@ -114,6 +114,13 @@ impl Bitmap {
         self.len
     }
 
+    /// Tells the prover that the members ascend and are valid page frames, which it knows only of a set that is read.
+    pub fn is_frame_set(&self)
+        ensures set { IsFrameSet self.now }
+    {
+        let _len = self.len();
+    }
+
     /// Removes every page frame from the set.
     pub fn clear_all(&mut self)
         ensures { self.new ≡ record self.old { members = [] } }

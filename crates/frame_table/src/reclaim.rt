@@ -46,8 +46,7 @@ pub fn shrink(
         (dropped_frames zones.now table keep.now want frames.old) }
     ensures len { length frames.new ≡ length frames.old }
 {
-    // Each page frame has 4096 bytes, so setting an entry leaves the others.
-    let _ = frames.len();
+    frames.are_pages();
     let saved = count_saveable(frames, zones, table);
     let most = u64::from(saved).saturating_sub(want) as u32;
     let mut dropped = 0;
@@ -108,8 +107,7 @@ fn drop_in_zone(
         (take most (filter (may_drop keep.now table frames.old) (range_with_len zone.0 zone.1))) }
     ensures len { length frames.new ≡ length frames.old }
 {
-    // Each page frame has 4096 bytes, so setting an entry leaves the others.
-    let _ = frames.len();
+    frames.are_pages();
     let (start, count) = zone;
     let mut dropped = 0;
     for p in start..start + count {

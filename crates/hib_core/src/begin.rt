@@ -92,7 +92,7 @@ impl Hib {
     {
         // The prover knows the bounds of a field's type only once the field is read.
         let _blocks = machine.blocks;
-        let _zones = machine.hw.zones();
+        machine.hw.is_hardware();
         self.stage = Stage::Idle;
         match self.accept(machine, frames, runs, format) {
             Ok(counts) => self.take(machine, frames, runs, counts, ending),
@@ -172,8 +172,7 @@ impl Hib {
         let _blocks = machine.blocks;
         let (zones, table) = (machine.hw.zones(), machine.hw.frame_table());
         self.snapshot.copy(frames, zones, table);
-        // The prover knows that each page frame has 4096 bytes only once the frames are read.
-        let _ = frames.len();
+        frames.are_pages();
         let info = info_of(&machine.hw, counts);
         let (slots, map) = (slot_table(&machine.hw), machine.hw.extents());
         let writer = Writer::begin(frames, runs, &slots, map, &info);

@@ -145,8 +145,7 @@ impl Hib {
         ensures size { length frames.new ≡ length frames.old }
         ensures matches { Matches frames.new (slot_table_of machine.now.hw) runs.new }
     {
-        // The prover knows that each page frame has 4096 bytes only once the frames are read.
-        let _ = frames.len();
+        frames.are_pages();
         slot_table(&machine.hw).give_image(frames, runs);
         self.stage = Stage::Idle;
     }
@@ -178,8 +177,7 @@ fn write_step<D: Disk>(
     ensures kept { KeepsSlots writer.old.table frames.old frames.new runs.old runs.new }
     ensures called { Called D.Disk OneCall (result ≡ WriteStep.Fault) disk.old disk.new }
 {
-    // The prover knows that each page frame has 4096 bytes only once the frames are read.
-    let _ = frames.len();
+    frames.are_pages();
     let sets = Sets {
         origs: snapshot.origs(),
         copies: snapshot.copies(),

@@ -86,7 +86,7 @@ impl<'a> FilledPlan<'a> {
     {
         let FilledPlan { plan, mut frames } = self;
         let hw = plan.hardware()?;
-        let _ = frames.len();
+        frames.are_pages();
         set_in_use(&mut frames, &hw, &plan.saved);
         set_slots(&mut frames, &hw, &Ok(plan.heading.area));
         Ok(Dump { hw, frames })

@@ -396,8 +396,7 @@ fn take_block(frames: &mut Frames, runs: &mut FreeRuns, table: &SlotTable, map: 
     ensures pages { All IsPage frames.old }
     ensures kept { KeepsSlots table.now frames.old frames.new runs.old runs.new }
 {
-    // Each page frame has 4096 bytes, so setting an entry leaves the others.
-    let _ = frames.len();
+    frames.are_pages();
     let slot = table.take(frames, runs, SlotEntry::Image).unwrap();
     map.block(slot) as u32
 }

@@ -127,6 +127,13 @@ impl Hardware {
         &self.zones
     }
 
+    /// Tells the prover what holds of every hardware, which it knows only of one that is read.
+    pub fn is_hardware(&self)
+        ensures hardware { IsHardware self.now }
+    {
+        let _zones = &self.zones;
+    }
+
     /// Returns how many slots there are: one more than the number of the area's last one.
     pub fn slots(&self) -> u32
         ensures { result ≡ self.now.slots }

@@ -19,4 +19,4 @@ pub use flight::Flight;
 pub use fresh::{set_fresh, set_slots};
 pub use hardware::{HardFault, Hardware, Parts};
 pub use machine::Machine;
-pub use tables::{are_whole, has_bad_slots, slot_table, tables_fit};
+pub use tables::{has_bad_slots, slot_table, tables_fit};

@@ -17,7 +17,7 @@ ghost use Rattle.machine.specs.Landing.{EndsOut, EndsIn};
 ghost use Rattle.machine.specs.Running.{slot_table_of};
 ghost use Rattle.sector_disk.specs.Called.{Called, OneCall};
 
-use crate::tables::{are_whole, slot_table};
+use crate::tables::slot_table;
 use crate::tasks::not_own;
 use crate::{Flight, Hardware, Machine};
 use frame_arena::Frames;
@@ -83,7 +83,7 @@ impl Machine {
         ensures room { runs.new.room ≡ runs.old.room }
         ensures called { Called D.Disk OneCall (TellsFailedCall result) disk.old disk.new }
     {
-        are_whole(frames);
+        frames.are_pages();
         match self.flight(t) {
             Flight::Out { slot, p } => self.end_out(frames, runs, disk, slot, p),
             Flight::In { slot, p } => self.end_in(frames, runs, disk, slot, p),
@@ -232,7 +232,7 @@ impl Machine {
         ensures pages { All IsPage frames.old }
         ensures hardware { IsHardware self.now.hw }
     {
-        are_whole(frames);
+        frames.are_pages();
         let table = slot_table(&self.hw);
         match self.area {
             Ok(_) => table.take(frames, runs, SlotEntry::Task(t)),

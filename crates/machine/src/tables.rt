@@ -37,13 +37,6 @@ pub fn slot_table(hw: &Hardware) -> SlotTable
     }
 }
 
-/// Tells the prover, by counting the page frames, that each has 4096 bytes, so setting one entry leaves the others.
-pub fn are_whole(frames: &Frames)
-    ensures { All IsPage frames.now }
-{
-    let _ = frames.len();
-}
-
 /// Checks that the tables in memory are well formed. Returns the first table frame at fault: it isn't saveable, has an
 /// owner, or has an entry that no valid page frame, or no slot, may have.
 pub fn tables_fit(frames: &Frames, hw: &Hardware) -> Result<(), u32>
@@ -52,7 +45,7 @@ pub fn tables_fit(frames: &Frames, hw: &Hardware) -> Result<(), u32>
     ensures fault { IfErr result (λ f. tables_fault hw.now frames.now ≡ Some f) }
     ensures tables { IsOk result → Fits hw.now frames.now }
 {
-    are_whole(frames);
+    frames.are_pages();
     let frame_table = frame_table_fits(frames, hw);
     let slot_table = slot_table_fits(frames, hw);
     if hw.frame_table() < hw.slot_table() {

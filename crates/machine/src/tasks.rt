@@ -12,7 +12,6 @@ ghost use Rattle.machine.specs.Running.{AreReserved};
 ghost use Rattle.machine.specs.TaskRow.{HasFrameRow, IsRefusal, own_refusal};
 ghost use Rattle.definitions.specs.declared.counts.TheConstants.{WORDS_PER_PAGE};
 
-use crate::tables::are_whole;
 use crate::{Hardware, Machine};
 use bitflags::Flags;
 use frame_arena::Frames;
@@ -157,7 +156,7 @@ fn is_free(frames: &Frames, hw: &Hardware, p: u32) -> bool
     ensures test { result ≡ (frame_entry hw.now frames.now p == 1) }
     ensures pages { All IsPage frames.now }
 {
-    are_whole(frames);
+    frames.are_pages();
     entry(frames, hw.frame_table(), p) == (PageFlags::FREE, 0)
 }
 
@@ -171,7 +170,7 @@ pub(crate) fn not_own(frames: &Frames, hw: &Hardware, t: u32, p: u32) -> Option<
     ensures hardware { IsHardware hw.now }
     ensures pages { All IsPage frames.now }
 {
-    are_whole(frames);
+    frames.are_pages();
     if !is_valid(hw, p) {
         return Some(Reply::NoFrame);
     }

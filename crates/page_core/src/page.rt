@@ -61,6 +61,13 @@ impl Page {
         &self.bytes
     }
 
+    /// Tells the prover that the page has 4096 bytes, which it knows only of a page that is read.
+    pub fn is_page(&self)
+        ensures page { IsPage self.now }
+    {
+        let _bytes = &self.bytes;
+    }
+
     /// Returns the 8-byte number at offset 8i.
     pub fn word(&self, i: usize) -> u64
         requires { i < WORDS_PER_PAGE }

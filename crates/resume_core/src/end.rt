@@ -15,7 +15,7 @@ use crate::load::Stage;
 use frame_arena::Frames;
 use image_format::{Area, AreaKind, take_back};
 use machine::{
-    Flight, Hardware, Machine, are_whole, has_bad_slots, slot_table, tables_fit, usable,
+    Flight, Hardware, Machine, has_bad_slots, slot_table, tables_fit, usable,
 };
 use page_core::Page;
 use plain_machine::{Held, Loader, Reply};
@@ -48,7 +48,7 @@ impl Load {
     {
         let saved = self.origs.len();
         self.waiting.finish(frames, &self.zeros);
-        are_whole(frames);
+        frames.are_pages();
         match &self.stage {
             Stage::Read(chain) => match self.loader {
                 Loader::Table => self.stop(Reply::Resumed { n: saved }),

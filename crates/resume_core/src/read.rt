@@ -84,7 +84,7 @@ impl Load {
                     let step = chain
                         .reader
                         .step(disk, &expected, &mut self.origs, &mut self.zeros, page);
-                    is_whole(page);
+                    page.is_page();
                     step
                 }
                 None => chain.reader.step(
@@ -139,11 +139,4 @@ fn count_page(waiting: &mut Waiting)
     if waiting.left() > 0 {
         waiting.placed();
     }
-}
-
-/// Reading the bytes tells the prover that a page has 4096 of them.
-fn is_whole(page: &Page)
-    ensures { IsPage page.now }
-{
-    let _ = page.as_bytes();
 }

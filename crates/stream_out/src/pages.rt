@@ -65,6 +65,7 @@ pub fn hand_out_head(
     ensures made { 0 < cursor.new.at → IsHead hw.now saveable.now.members cursor.new.page head.new }
     ensures from { cursor.new.from ≡ cursor.old.from }
 {
+    // A set has fewer than 2^32 page frames.
     let _ = saveable.len();
     if cursor.at == 0 {
         *head = head_page(hw, saveable, cursor.page);
@@ -94,7 +95,7 @@ pub fn hand_out_data(
     ensures from { count_below saveable.now.members cursor.new.from
         ≡ count_below saveable.now.members cursor.old.from + (cursor.new.page - cursor.old.page) }
 {
-    let _ = saveable.len();
+    saveable.is_frame_set();
     let p = saveable.first_from(cursor.from).unwrap();
     let count = hand_out(frames.page(p).as_bytes(), cursor, into);
     if cursor.at == 0 {

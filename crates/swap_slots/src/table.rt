@@ -93,8 +93,7 @@ impl SlotTable {
         ensures len { length frames.new ≡ length frames.old }
         ensures room { runs.new.room ≡ runs.old.room }
     {
-        // Each page frame has 4096 bytes, so setting an entry leaves the others.
-        let _ = frames.len();
+        frames.are_pages();
         for slot in 0..self.slots {
             if let SlotEntry::Image = self.entry(frames, slot) {
                 self.give(frames, runs, slot);
@@ -111,8 +110,7 @@ impl SlotTable {
         ensures offset { result.1 ≡ 4 * (slot % ENTRIES_PER_FRAME) }
         ensures pages { All IsPage frames.now }
     {
-        // The page frames of the table are below the count, so their numbers fit.
-        let _ = frames.len();
+        frames.are_pages();
         (
             self.first + slot / ENTRIES_PER_FRAME,
             4 * (slot % ENTRIES_PER_FRAME) as usize,

@@ -41,7 +41,7 @@ pub fn machine_of(alloc: Global, dump: Dump) -> Result<World, NoMemory>
     ensures frames { IfOk result (λ world. world.frames ≡ dump.frames) }
     ensures new { IfOk result (λ world. IsNewWorld (hardware_of world) (Some world.frames) world) }
 {
-    let _ = dump.hw.zones();
+    dump.hw.is_hardware();
     World::from_dump(alloc, dump)
 }
 

@@ -23,7 +23,7 @@ pub fn blocks_needed(hw: &Hardware) -> u32
     ensures need { IsNeeded hw.now result }
     ensures hardware { IsHardware hw.now }
 {
-    let _slots = hw.slots();
+    hw.is_hardware();
     let mut need = 0;
     for &(_, length, block) in hw.extents().extents() {
         need = need.max(block + length);

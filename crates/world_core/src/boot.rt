@@ -76,8 +76,7 @@ impl World {
         ensures reply { result ≡ reply.More 0 2 }
     {
         let hw = self.machine.hw;
-        // Reading a field tells the prover the hardware invariant.
-        let _zones = hw.zones();
+        hw.is_hardware();
         set_memory(&mut self.frames, &hw, from);
         self.machine.blocks = blocks;
         self.core = Core::BootBegun(from);

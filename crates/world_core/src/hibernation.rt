@@ -57,8 +57,7 @@ impl World {
         ensures refused { IsRefused (event_of job) self.old result → ChangesNothing self.old self.new }
         ensures memory { KeepsUsed (hardware_of self.old) self.old.frames self.new.frames }
     {
-        // Reading a field tells the prover the hardware invariant.
-        let _zones = self.machine.hw.zones();
+        self.machine.hw.is_hardware();
         let reply = self
             .hib
             .begin(&mut self.machine, &mut self.frames, &mut self.runs, job);
@@ -76,8 +75,7 @@ impl World {
             disk.old disk.new }
         ensures memory { KeepsUsedFrames self.old self.new result }
     {
-        // Reading the length tells the prover that each page frame has 4096 bytes.
-        let _ = self.frames.len();
+        self.frames.are_pages();
         let reply = self
             .hib
             .step(&mut self.machine, &mut self.frames, &mut self.runs, disk);

@@ -74,8 +74,7 @@ fn drop_of(frames: &mut Frames, hw: &Hardware, want: u64) -> (u32, u32)
     ensures pages { All IsPage frames.old }
     ensures len { length frames.new ≡ length frames.old }
 {
-    // Reading the length tells the prover that each page frame has 4096 bytes.
-    let _ = frames.len();
+    frames.are_pages();
     let zones = hw.zones();
     let tables = [
         (hw.frame_table(), zones.top().div_ceil(ENTRIES_PER_FRAME)),

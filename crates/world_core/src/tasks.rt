@@ -58,8 +58,7 @@ impl World {
         ensures core { self.new.core ≡ self.old.core }
         ensures refused { IsRefused (event.Task t op) self.old result → ChangesNothing self.old self.new }
     {
-        // Reading a field tells the prover the hardware invariant.
-        let _zones = self.machine.hw.zones();
+        self.machine.hw.is_hardware();
         self.machine.task(&mut self.frames, &mut self.runs, t, op)
     }
 
@@ -111,8 +110,7 @@ impl World {
         ensures core { self.new.core ≡ self.old.core }
         ensures works { result ≢ reply.Idle }
     {
-        // Reading a field tells the prover the hardware invariant.
-        let _zones = self.machine.hw.zones();
+        self.machine.hw.is_hardware();
         self.machine
             .finish(&mut self.frames, &mut self.runs, disk, t)
     }

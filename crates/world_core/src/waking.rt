@@ -66,10 +66,8 @@ impl World {
             disk.old disk.new }
         ensures memory { WakesWith self.old self.new result }
     {
-        // Reading the length tells the prover that each page frame has 4096 bytes.
-        let _ = self.frames.len();
-        // Reading a field tells the prover the hardware invariant.
-        let _zones = self.machine.hw.zones();
+        self.frames.are_pages();
+        self.machine.hw.is_hardware();
         let reply = self.waker.step(&self.machine, disk);
         leave(&mut self.machine, &mut self.frames, &mut self.runs, &reply);
         let phase = self.waker.phase();

@@ -17,12 +17,12 @@ head_of ident runs = head_bytes (machine_of ident) (identity_bytes ident) runs
 pub put_head-requires-clause-few : goal.put_head-requires-clause-few
 put_head-requires-clause-few g c =
     let d = c.args.dump.now in
-    omega (arith, ap length c.requires.runs, few_picked_runs (is_told d.hw d.frames) d.hw.zones c.zones.ensures.hardware.zones)
+    omega (arith, ap length c.requires.runs, few_picked_runs (is_told d.hw d.frames) d.hw.zones c.is_hardware.ensures.hardware.zones)
 
 pub put_head-requires-clause-each : goal.put_head-requires-clause-each
 put_head-requires-clause-each g c =
     let d = c.args.dump.now in
-    let zones = c.zones.ensures.hardware.zones in
+    let zones = c.is_hardware.ensures.hardware.zones in
     subst (λ (runs : List (ℕ × ℕ)). All (λ (run : ℕ × ℕ). zone_end run ≤ 65536) runs) (sym c.requires.runs)
     (picked_end (is_told d.hw d.frames) d.hw.zones 65536 zones (top_at_most d.hw.zones zones))
 
@@ -30,12 +30,12 @@ pub put_pages-requires-clause-within : goal.put_pages-requires-clause-within
 put_pages-requires-clause-within g c =
     let d = c.args.dump.now in
     subst (λ (runs : List (ℕ × ℕ)). All (λ (run : ℕ × ℕ). zone_end run ≤ length d.frames) runs) (sym c.requires.runs)
-    (picked_end (is_told d.hw d.frames) d.hw.zones (length d.frames) c.zones.ensures.hardware.zones (omega (arith, c.requires.frames)))
+    (picked_end (is_told d.hw d.frames) d.hw.zones (length d.frames) c.is_hardware.ensures.hardware.zones (omega (arith, c.requires.frames)))
 
 pub put_pages-requires-clause-few : goal.put_pages-requires-clause-few
 put_pages-requires-clause-few g c =
     let d = c.args.dump.now in
-    let zones = c.zones.ensures.hardware.zones in
+    let zones = c.is_hardware.ensures.hardware.zones in
     subst (λ (runs : List (ℕ × ℕ)). All (λ (run : ℕ × ℕ). zone_end run ≤ 65536) runs) (sym c.requires.runs)
     (picked_end (is_told d.hw d.frames) d.hw.zones 65536 zones (top_at_most d.hw.zones zones))
 

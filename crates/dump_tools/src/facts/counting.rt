@@ -58,8 +58,7 @@ fn is_of(dump: &Dump, kind: Kind, p: u32) -> bool
     requires valid { Contains (numbers dump.now.hw.zones) p }
     ensures { result ≡ is_of dump.now.hw dump.now.frames kind p }
 {
-    // Reading a field tells the prover the hardware invariant.
-    let _ = dump.hw.zones();
+    dump.hw.is_hardware();
     match kind {
         Kind::Saveable => is_saveable(dump, p),
         Kind::WithData => is_saveable(dump, p) && !dump.frames.is_zero(p),

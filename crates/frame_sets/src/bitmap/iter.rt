@@ -21,8 +21,7 @@ impl<'a> Iterator for Iter<'a> {
     ghost remaining = { item_count left_in };
 
     fn next(&mut self) -> Option<u32> {
-        // Counting the members tells the prover that they ascend.
-        let _ = self.set.len();
+        self.set.is_frame_set();
         let p = self.set.first_from(self.from)?;
         self.from = p + 1;
         Some(p)
@@ -43,8 +42,7 @@ impl Bitmap {
         ensures members { left_in result ≡ members_from p self.now.members }
         ensures set { IsFrameSet self.now }
     {
-        // Counting the members tells the prover that they ascend.
-        let _ = self.len();
+        self.is_frame_set();
         Iter { set: self, from: p }
     }
 }

@@ -173,7 +173,7 @@ impl Unpack {
               ++ marked_in self.now page.now count;
         } }
     {
-        let _ = origs.len();
+        origs.is_frame_set();
         for j in 0..count {
             let word = page.word(j as usize);
             let p = self.number(word) as u32;

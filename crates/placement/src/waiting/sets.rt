@@ -13,8 +13,7 @@ pub(crate) fn mark_with_data(set: &mut Bitmap, origs: &Bitmap, zeros: &Bitmap)
     ensures { set.new ≡ record set.old { members = with_data origs.now.members zeros.now.members } }
 {
     set.copy_from(origs);
-    // Counting the originals tells the prover that they are valid.
-    let _ = origs.len();
+    origs.is_frame_set();
     for p in zeros.iter() {
         if set.has(p) {
             set.clear(p);

@@ -11,7 +11,7 @@ pub loop-p-init : goal.loop-p-init
 loop-p-init c =
     let none = range_none c.args.keep.now c.args.table c.args.frames.now c.args.most c.args.zone.0 in
     record {
-      pages = c.len.ensures.pages;
+      pages = c.are_pages.ensures.pages;
       frames = sym (ap (λ (ps : List ℕ). with_entries c.args.frames.now c.args.table ps 1) none ∙ with_entries-none c.args.frames.now c.args.table 1);
       dropped = sym (ap length none);
       len = refl;

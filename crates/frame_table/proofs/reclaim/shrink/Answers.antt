@@ -15,7 +15,7 @@ pub loop-zone-init : goal.loop-zone-init
 loop-zone-init c =
     let none : take {A = ℕ} c.saturating_sub-most.result [] ≡ [] = take_all c.saturating_sub-most.result [] (omega arith) in
     record {
-      pages = c.len.ensures.pages;
+      pages = c.are_pages.ensures.pages;
       frames = sym (ap (λ (ps : List ℕ). with_entries c.args.frames.now c.args.table ps 1) none ∙ with_entries-none c.args.frames.now c.args.table 1);
       dropped = sym (ap length none);
       len = refl;

@@ -17,7 +17,7 @@ returns-then-frame_table-slot_table c =
     record {
       fits = none;
       fault = tells_err (tables_fault h m) c.and.result told;
-      tables = λ ok. fits-no_fault h m c.frame_table.ensures.hardware c.are_whole.ensures c.requires (none.0 ok);
+      tables = λ ok. fits-no_fault h m c.frame_table.ensures.hardware c.are_pages.ensures.pages c.requires (none.0 ok);
     }
 
 pub returns-else-frame_table-slot_table : goal.returns-else-frame_table-slot_table
@@ -35,5 +35,5 @@ returns-else-frame_table-slot_table c =
     record {
       fits = none;
       fault = tells_err (tables_fault h m) r told;
-      tables = λ ok. fits-no_fault h m c.frame_table.ensures.hardware c.are_whole.ensures c.requires (none.0 ok);
+      tables = λ ok. fits-no_fault h m c.frame_table.ensures.hardware c.are_pages.ensures.pages c.requires (none.0 ok);
     }

@@ -19,4 +19,4 @@ pub returns-clause-content : goal.returns-clause-content
 returns-clause-content c =
     let places = c.self.inside.places in
     let pages = c.self.inside.pages in
-    page_of places.items pages.items pages.cap c.self.invariant c.args.self.now c.self.view_is c.args.p c.requires c.index-place.result.now c.index-place.ensures c.index-page.result.now c.index-page.ensures c.as_bytes.ensures.page
+    page_of places.items pages.items pages.cap c.self.invariant c.args.self.now c.self.view_is c.args.p c.requires c.index-place.result.now c.index-place.ensures c.index-page.result.now c.index-page.ensures c.is_page.ensures.page

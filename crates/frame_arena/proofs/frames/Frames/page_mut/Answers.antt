@@ -23,6 +23,6 @@ returns c =
       (refl, λ last. lent_over places.items pages.items pages.cap kept c.args.self.now seen p c.requires place at last c.own_place-place.ensures.own),
       record {
         writes_back = tt;
-        value = page_of places.items pages.items pages.cap kept c.args.self.now seen p c.requires place at page c.index_mut-page.ensures.value c.as_bytes.ensures.page;
+        value = page_of places.items pages.items pages.cap kept c.args.self.now seen p c.requires place at page c.index_mut-page.ensures.value c.is_page.ensures.page;
       },
     )

@@ -11,7 +11,7 @@ use Rattle.hib_core.proofs.hib.Hib.hibernate.Goals as goal
 pub returns-in-Ok-clause-row : goal.returns-in-Ok-clause-row
 returns-in-Ok-clause-row c = λ k.
     let is : IsBegin c.args.machine.now c.args.frames.now c.take.new.frames c.accept.new.self c.take.new.self c.in-Ok.counts c.args.ending = record {
-      hardware = c.zones-zones.ensures.hardware;
+      hardware = c.is_hardware.ensures.hardware;
       size = c.requires.ready.run.size;
       counted = c.in-Ok.ensures.counted;
       taken = c.take.ensures.taken;
@@ -22,7 +22,7 @@ returns-in-Ok-clause-row c = λ k.
 pub returns-in-Ok-clause-ready : goal.returns-in-Ok-clause-ready
 returns-in-Ok-clause-ready c = λ busy.
     let is : IsBegin c.args.machine.now c.args.frames.now c.take.new.frames c.accept.new.self c.take.new.self c.in-Ok.counts c.args.ending = record {
-      hardware = c.zones-zones.ensures.hardware;
+      hardware = c.is_hardware.ensures.hardware;
       size = c.requires.ready.run.size;
       counted = c.in-Ok.ensures.counted;
       taken = c.take.ensures.taken;

@@ -16,4 +16,4 @@ set_slots-requires c =
 pub returns-clause-machine : goal.returns-clause-machine
 returns-clause-machine c = λ saved filled.
     given_tables c.args.self saved c.in_ok-hw.hw c.set_slots.new.frames filled c.in_ok-hw.ensures.hardware c.in_ok-hw.ensures.tables c.in_ok-hw.ensures.is
-    c.len.ensures.pages c.set_in_use.new.frames c.set_in_use.ensures.set c.set_slots.ensures.set
+    c.are_pages.ensures.pages c.set_in_use.new.frames c.set_in_use.ensures.set c.set_slots.ensures.set

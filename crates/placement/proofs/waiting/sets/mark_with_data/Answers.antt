@@ -25,7 +25,7 @@ clear-requires c =
     let origs = c.args.origs.now in
     let p = c.in-Some.p in
     let member = subst (λ (members : List ℕ). Contains members p) c.loop-p.invariant.members (c.has.ensures.0 c.if-has.true) in
-    let valid = All-contains (Contains (numbers origs.zones)) origs.members p c.len.ensures.set.valid (Contains-from_with_data origs.members c.loop-p.yielded p member).0 in
+    let valid = All-contains (Contains (numbers origs.zones)) origs.members p c.is_frame_set.ensures.set.valid (Contains-from_with_data origs.members c.loop-p.yielded p member).0 in
     subst (λ (zones : List (ℕ × ℕ)). Contains (numbers zones) p) (sym (c.loop-p.invariant.zones ∙ c.requires)) valid
 
 pub loop-p-preserved-then-has : goal.loop-p-preserved-then-has
@@ -38,7 +38,7 @@ loop-p-preserved-then-has c =
       zones = ap (λ (set : FrameSet). set.zones) c.clear.ensures ∙ c.loop-p.invariant.zones;
       members =
           ap (λ (set : FrameSet). set.members) c.clear.ensures ∙ ap (λ (ps : List ℕ). removed ps p) c.loop-p.invariant.members
-          ∙ sym (with_one_less origs c.loop-p.yielded p c.len.ensures.set.ascending);
+          ∙ sym (with_one_less origs c.loop-p.yielded p c.is_frame_set.ensures.set.ascending);
       left = next.goes_on;
     }
 
@@ -48,7 +48,7 @@ loop-p-preserved c =
     let zeros = c.args.zeros.now.members in
     let p = c.in-Some.p in
     let before = c.loop-p.set.members in
-    let up = c.len.ensures.set.ascending in
+    let up = c.is_frame_set.ensures.set.ascending in
     let next = next_member zeros c.loop-p.yielded (left_in c.loop-p.p-iterator) (left_in c.next.new.self) p c.iter-p-items.ensures.set.ascending c.loop-p.invariant.left c.in-Some.ensures.steps in
     let rises = subst IsStrictlyIncreasing (sym c.loop-p.invariant.members) (IsStrictlyIncreasing-with_data origs c.loop-p.yielded up) in
     record {

@@ -23,7 +23,7 @@ returns-in-Table-clause-row c = λ chain at d l v k read places room over.
 
 pub returns-in-Ok-clause-row : goal.returns-in-Ok-clause-row
 returns-in-Ok-clause-row c = λ chain at d l v k read places room over.
-    let row = resumed_row c.args.machine.now c.args.frames.now c.finish.new.frames c.args.self.now (record c.args.self.now { stage = stage.Runs; waiting = c.finish.new.self }) c.in-Read.chain c.in-Ranges.field-0 c.in-Ok.area c.len-saved.result c.in-Ranges.is c.are_whole.ensures
+    let row = resumed_row c.args.machine.now c.args.frames.now c.finish.new.frames c.args.self.now (record c.args.self.now { stage = stage.Runs; waiting = c.finish.new.self }) c.in-Read.chain c.in-Ranges.field-0 c.in-Ok.area c.len-saved.result c.in-Ranges.is c.are_pages.ensures.pages
     (record { restored = c.finish.ensures.restored; size = c.finish.ensures.size ∙ c.requires.ready.over.size }) c.in-Ok.ensures.tables c.in-Ok.ensures.kind c.len-saved.ensures.len refl in
     row d l v k (subst (λ (x : OpenChain). HasRead c.args.machine.now c.args.frames.now c.args.self.now x d l v k) (same_read chain c.in-Read.chain (sym at ∙ c.in-Read.is)) read) places room over
 

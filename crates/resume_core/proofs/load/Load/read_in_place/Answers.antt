@@ -18,7 +18,7 @@ returns-in-Some-clause-read g c =
       page = c.step-step.new.page;
       was = c.in-Read.is;
       stays = refl;
-      puts = puts_next load.waiting c.args.frames.now c.in-Some.p c.step-step.new.page c.in-Some.ensures.waits c.requires.ready.places c.is_whole.ensures;
+      puts = puts_next load.waiting c.args.frames.now c.in-Some.p c.step-step.new.page c.in-Some.ensures.waits c.requires.ready.places c.is_page.ensures.page;
       answers = λ v t has reads. c.step-step.ensures.answers c.args.machine.now.hw v load.check t has reads c.expected_of-expected.ensures.zones c.expected_of-expected.ensures.ident;
       goes_on = c.step-step.ensures.goes_on;
       over = λ done. let all = c.step-step.ensures.done.0 done in subst HasReadAll (sym (c.step-step.ensures.untouched all).same_reader) all;

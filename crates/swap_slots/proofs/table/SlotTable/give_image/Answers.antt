@@ -25,7 +25,7 @@ loop-slot-preserved c =
     let slot = c.loop-slot.slot in
     let h = c.loop-slot.invariant in
     let entry : entry_at c.loop-slot.frames table.first slot ≡ entry_at frames table.first slot =
-    ap (λ fs. entry_at fs table.first slot) h.given ∙ image_entry frames table slot c.len.ensures.pages c.requires.table c.loop-slot-test.true in
+    ap (λ fs. entry_at fs table.first slot) h.given ∙ image_entry frames table slot c.are_pages.ensures.pages c.requires.table c.loop-slot-test.true in
     let is_image = entry_of_word-is_image (entry_at c.loop-slot.frames table.first slot) in
     elim c.match-entry.branch [
       | in-Image w ↦

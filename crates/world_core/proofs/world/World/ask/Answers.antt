@@ -13,7 +13,7 @@ returns-clause-row c = λ k.
     let new = record old { machine = c.task.new.self; frames = c.task.new.frames } in
     let core = ap (λ (w : World). w.core) c.self.view_is ∙ c.requires.running in
     subst (λ (w : World). Simulates (event.Task c.args.t c.args.op) w new c.task.result k k) c.self.view_is
-    (row_of_task old new k c.args.t c.args.op c.task.result c.zones-zones.ensures.hardware c.requires.task core
+    (row_of_task old new k c.args.t c.args.op c.task.result c.is_hardware.ensures.hardware c.requires.task core
     (record {
       core = core;
       hw = ap (λ (m : Machine). m.hw) c.task.ensures.machine;

@@ -23,7 +23,7 @@ invariant_of-self c =
       waiting = kept.waiting;
       room = kept.room;
       tables = λ has.
-          reserved-set c.args.from h c.self.inside.frames c.set_memory.new.frames c.zones-zones.ensures.hardware c.set_memory.ensures.fresh c.set_memory.ensures.kept
+          reserved-set c.args.from h c.self.inside.frames c.set_memory.new.frames c.is_hardware.ensures.hardware c.set_memory.ensures.fresh c.set_memory.ensures.kept
           (λ e. kept.tables (tables_kept c.self.inside.core (ap (λ (w : World). keeps_dump w.core) c.self.view_is ∙ c.requires.dump (ap asks_dump_to_boot e))));
       run = λ up. absurd up;
       header = λ up some. absurd up;

@@ -30,9 +30,9 @@ invariant_of-self c =
       tables = λ has. no_tables_told c.begin-reply.result c.core_in-self-inside.result (c.core_in-self-inside.ensures ∙ ap core_in (c.phase-phase.ensures ∙ c.begin-reply.ensures.phase)) has;
       run = λ now.
           subst (λ (m : Machine). CanRun m c.begin-reply.new.frames c.begin-reply.new.runs) (sym c.begin-reply.ensures.machine)
-          (can_run-same c.self.inside.machine c.self.inside.machine c.self.inside.frames c.begin-reply.new.frames c.self.inside.runs c.begin-reply.new.runs c.zones-zones.ensures.hardware (record { hw = refl; area = refl; blocks = refl; flights = refl })
+          (can_run-same c.self.inside.machine c.self.inside.machine c.self.inside.frames c.begin-reply.new.frames c.self.inside.runs c.begin-reply.new.runs c.is_hardware.ensures.hardware (record { hw = refl; area = refl; blocks = refl; flights = refl })
           (c.begin-reply.ensures.size ∙ c.self.invariant.size) c.begin-reply.ensures.matches
-          (entries_at_begin c.args.job c.self.inside.machine.hw c.self.inside.frames c.begin-reply.new.frames c.zones-zones.ensures.hardware can.reserved c.begin-reply.ensures.memory) can);
+          (entries_at_begin c.args.job c.self.inside.machine.hw c.self.inside.frames c.begin-reply.new.frames c.is_hardware.ensures.hardware can.reserved c.begin-reply.ensures.memory) can);
       header = λ now some.
           subst (λ (m : Machine). block_of_slot m.hw 0 < m.blocks) (sym c.begin-reply.ensures.machine) (c.self.invariant.header up (λ none. some (ap (λ (m : Machine). m.held) c.begin-reply.ensures.machine ∙ none)));
       place = λ down. never_sleeps c.begin-reply.result c.core_in-self-inside.result (c.core_in-self-inside.ensures ∙ ap core_in (c.phase-phase.ensures ∙ c.begin-reply.ensures.phase)) c.begin-reply.ensures.begun down;
@@ -53,4 +53,4 @@ pub returns-clause-memory : goal.returns-clause-memory
 returns-clause-memory c =
     let up : IsUp c.self.inside.core = subst IsUp (sym (ap (λ (w : World). w.core) c.self.view_is ∙ c.requires.running)) tt in
     subst (λ (old : World). KeepsUsed old.machine.hw old.frames c.begin-reply.new.frames) c.self.view_is
-    (at_begin_keeps c.self.inside.machine.hw c.args.job c.self.inside.frames c.begin-reply.new.frames c.zones-zones.ensures.hardware c.self.invariant.size (c.self.invariant.run up).reserved c.begin-reply.ensures.memory)
+    (at_begin_keeps c.self.inside.machine.hw c.args.job c.self.inside.frames c.begin-reply.new.frames c.is_hardware.ensures.hardware c.self.invariant.size (c.self.invariant.run up).reserved c.begin-reply.ensures.memory)

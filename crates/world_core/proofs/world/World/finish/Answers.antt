@@ -20,7 +20,7 @@ returns-clause-row g c =
     subst (λ (w : World). SimulatesWhereTold (event.Step (actor.Task c.args.t)) w new c.finish.result (g.D.Disk.content c.args.disk.now) (g.D.Disk.content c.finish.new.disk)) c.self.view_is
     (row_of_end old new c.args.t c.finish.result (g.D.Disk.block_count c.args.disk.now) (g.D.Disk.content c.args.disk.now) (g.D.Disk.content c.finish.new.disk) flies.0
     (record {
-      hardware = c.zones-zones.ensures.hardware;
+      hardware = c.is_hardware.ensures.hardware;
       size = c.self.invariant.size;
       task = c.requires.task;
       core = core;

@@ -79,7 +79,7 @@ returns-clause-memory g c =
     let new = kept_world (record { machine = c.step-reply.new.machine; frames = c.step-reply.new.frames; runs = c.step-reply.new.runs; hib = c.step-reply.new.self; load = c.self.inside.load; waker = c.self.inside.waker; core = c.core_in-self-inside.result }) in
     let h = c.self.inside.machine.hw in
     let change = change_of c.step-reply.result c.self.inside.hib.stage in
-    let memory : IsMemoryOf h c.self.inside.frames = record { pages = c.len.ensures.pages; table = slot_table_lies h c.self.inside.frames (c.self.invariant.busy core).0.hardware c.self.invariant.size } in
+    let memory : IsMemoryOf h c.self.inside.frames = record { pages = c.are_pages.ensures.pages; table = slot_table_lies h c.self.inside.frames (c.self.invariant.busy core).0.hardware c.self.invariant.size } in
     let keeps : KeepsUsedFrames (kept_world c.self.inside) new c.step-reply.result = record {
       used = step_keeps h change c.self.inside.frames c.step-reply.new.frames memory c.step-reply.ensures.stepped.memory;
       given = λ e. given_back h change c.self.inside.frames c.step-reply.new.frames memory c.step-reply.ensures.stepped.memory e;

@@ -44,8 +44,8 @@ invariant_of-self g c =
       room = c.leave.ensures.matches.room;
       tables = λ has. woken_no_tables r (subst HasTables after has);
       run = λ now.
-          can_run-same c.self.inside.machine c.leave.new.machine c.self.inside.frames c.leave.new.frames c.self.inside.runs c.leave.new.runs c.zones-zones.ensures.hardware same size c.leave.ensures.matches
-          (left_entries r c.self.inside.machine c.leave.new.machine c.self.inside.frames c.leave.new.frames c.zones-zones.ensures.hardware left) (kept.run up);
+          can_run-same c.self.inside.machine c.leave.new.machine c.self.inside.frames c.leave.new.frames c.self.inside.runs c.leave.new.runs c.is_hardware.ensures.hardware same size c.leave.ensures.matches
+          (left_entries r c.self.inside.machine c.leave.new.machine c.self.inside.frames c.leave.new.frames c.is_hardware.ensures.hardware left) (kept.run up);
       header = λ now some. in_place c.self.inside.machine c.leave.new.machine same (kept.place (subst IsDown (sym core) tt));
       place = λ down. in_place c.self.inside.machine c.leave.new.machine same (kept.place (subst IsDown (sym core) tt));
       busy = λ e. woken_not_busy r (sym after ∙ e);
@@ -59,7 +59,7 @@ returns-clause-stepped g c = record {
       let old = kept_world c.self.inside in
       let new = record old { machine = c.leave.new.machine; frames = c.leave.new.frames; waker = c.step-reply.new.self; core = c.core_in-self-inside.result } in
       let memory : IsMemoryOf c.self.inside.machine.hw c.self.inside.frames =
-      record { pages = c.len.ensures.pages; table = slot_table_lies c.self.inside.machine.hw c.self.inside.frames c.zones-zones.ensures.hardware c.self.invariant.size } in
+      record { pages = c.are_pages.ensures.pages; table = slot_table_lies c.self.inside.machine.hw c.self.inside.frames c.is_hardware.ensures.hardware c.self.invariant.size } in
       subst (λ (w : World). SimulatesWhereTold (event.Step actor.Core) w new c.step-reply.result (g.D.Disk.content c.args.disk.now) (g.D.Disk.content c.step-reply.new.disk)) c.self.view_is
       (row_of_step old new c.step-reply.result (g.D.Disk.content c.args.disk.now) (g.D.Disk.content c.step-reply.new.disk) (ap (λ (w : World). w.core) c.self.view_is ∙ c.requires.wakes) (c.core_in-self-inside.ensures ∙ ap core_waking (c.phase-phase.ensures ∙ c.step-reply.ensures.stepped.phase)) c.leave.ensures.left memory c.step-reply.ensures.stepped.row);
   restored =
@@ -85,4 +85,4 @@ returns-clause-memory g c =
     subst (λ (w : World). WakesWith w new c.step-reply.result) c.self.view_is (wakes_with old new c.step-reply.result c.leave.ensures.left)
 
 pub leave-requires-clause-table : goal.leave-requires-clause-table
-leave-requires-clause-table g c = slot_table_lies c.self.inside.machine.hw c.self.inside.frames c.zones-zones.ensures.hardware c.self.invariant.size
+leave-requires-clause-table g c = slot_table_lies c.self.inside.machine.hw c.self.inside.frames c.is_hardware.ensures.hardware c.self.invariant.size

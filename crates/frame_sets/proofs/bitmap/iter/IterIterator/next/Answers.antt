@@ -13,11 +13,11 @@ returns-in_err-p-clause-steps c =
     subst (λ (o : Option ℕ). YieldsFirst left_in s o s) (sym c.from_residual.ensures) (none, none)
 
 pub returns-clause-steps : goal.returns-clause-steps
-returns-clause-steps c = first_left c.args.self.now.from c.in_ok-p.p c.args.self.now.set.now.members c.len.ensures.set.ascending (sym c.first_from.ensures ∙ c.in_ok-p.was)
+returns-clause-steps c = first_left c.args.self.now.from c.in_ok-p.p c.args.self.now.set.now.members c.is_frame_set.ensures.set.ascending (sym c.first_from.ensures ∙ c.in_ok-p.was)
 
 pub returns-clause-goes : goal.returns-clause-goes
 returns-clause-goes c =
-    let left = first_left c.args.self.now.from c.in_ok-p.p c.args.self.now.set.now.members c.len.ensures.set.ascending (sym c.first_from.ensures ∙ c.in_ok-p.was) in
+    let left = first_left c.args.self.now.from c.in_ok-p.p c.args.self.now.set.now.members c.is_frame_set.ensures.set.ascending (sym c.first_from.ensures ∙ c.in_ok-p.was) in
     record {
       on = λ finite. (tt, tt, one_less (sym (ap length left)));
       keeps = tt;
@@ -28,7 +28,7 @@ returns-clause-goes c =
 
 pub overflow_add-self : goal.overflow_add-self
 overflow_add-self c =
-    let set = c.len.ensures.set in
+    let set = c.is_frame_set.ensures.set in
     let place = found_in c.args.self.now.from c.in_ok-p.p c.args.self.now.set.now.members (sym c.first_from.ensures ∙ c.in_ok-p.was) in
     let valid = subst (Contains (numbers c.args.self.now.set.now.zones)) place.2 (set.valid place.0 c.in_ok-p.p place.1) in
     let below = below_top c.args.self.now.set.now.zones c.in_ok-p.p set.zones.apart valid in

@@ -28,8 +28,8 @@ overflow_cast-p c =
     let zones = c.args.origs.now.zones in
     let j = c.loop-j.j in
     let sound = first_below-none (fault_in zones u page) j c.args.count c.loop-j-test.true c.requires.sound in
-    let low = below_top zones (number_in u page j) c.len.ensures.set.zones.apart (valid_number zones (before_in u page j) (number_in u page j) sound) in
-    let top = top_at_most zones c.len.ensures.set.zones in
+    let low = below_top zones (number_in u page j) c.is_frame_set.ensures.set.zones.apart (valid_number zones (before_in u page j) (number_in u page j) sound) in
+    let top = top_at_most zones c.is_frame_set.ensures.set.zones in
     let is : c.number-p.result ≡ number_in u page j = c.number-p.ensures ∙ ap (number_by u.format) c.word-word.ensures in
     let fits : c.number-p.result < 65536 = omega arith in
     search rules
