@@ -1,4 +1,5 @@
 ghost use Rattle.std.specs.Prelude.{◌≡◌, ◌<◌, ◌≤◌, ◌^◌};
+ghost use Rattle.boot_resume.specs.Facts.{Facts, compared_by, facts};
 
 use crate::cause::Cause;
 use crate::ranges::first_misplaced;
@@ -51,9 +52,6 @@ pub struct Machine<'a> {
 }
 
 impl<'a> Model for Machine<'a> {
-    ghost use Rattle.std.specs.Prelude.{◌<◌, ◌^◌};
-    ghost use Rattle.boot_resume.specs.Facts.{Facts, compared_by, facts};
-
     ghost Value = { Facts };
 
     ghost view = { λ m.

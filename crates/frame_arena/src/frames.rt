@@ -36,9 +36,6 @@ pub struct Frames {
 }
 
 impl Model for Frames {
-    ghost use Rattle.std.specs.Prelude.{List, ℕ, vec_capacity};
-    ghost use Rattle.frame_arena.specs.Places.{contents, AreKept};
-
     ghost Value = { List (List ℕ) };
 
     ghost view = { λ f. contents f.places.items f.pages.items };

@@ -9,6 +9,8 @@ ghost use Rattle.plain_machine.specs.declared.event.IdentCheck.{IdentCheck};
 ghost use Rattle.plain_machine.specs.Trace.{first_map, info_in, place, place_count};
 ghost use Rattle.plain_machine.specs.Chain.{map_fault};
 ghost use Rattle.sector_disk.specs.Called.{Called, AtMostOneCall};
+ghost use Rattle.image_read.specs.Reading.{Reading};
+ghost use Rattle.image_read.specs.Kept.{kept_reading, IsKept};
 
 use crate::area::Area;
 use crate::cause::Cause;
@@ -67,11 +69,7 @@ pub struct Reader {
 }
 
 impl Model for Reader {
-    ghost use Rattle.image_read.specs.Reading.{Reading};
-
     ghost Value = { Reading };
-
-    ghost use Rattle.image_read.specs.Kept.{kept_reading, IsKept};
 
     ghost view = { kept_reading };
 

@@ -4,7 +4,7 @@ ghost use Rattle.definitions.specs.Bytes.{IsPage};
 ghost use Rattle.definitions.specs.Slots.{block_of};
 ghost use Rattle.image_write.specs.Answers.{after};
 ghost use Rattle.image_write.specs.Steps.{HasSlots, KeepsSlots};
-ghost use Rattle.image_write.specs.Writing.{writes_of};
+ghost use Rattle.image_write.specs.Writing.{writes_of, Writing};
 ghost use Rattle.definitions.specs.NumberPages.{meta_of, marked_numbers};
 ghost use Rattle.definitions.specs.Tables.{frame, with_entry, with_entries};
 ghost use Rattle.plain_machine.specs.Image.{stream_pages};
@@ -12,6 +12,7 @@ ghost use Rattle.swap_slots.specs.Table.{free_in};
 ghost use Rattle.image_write.specs.Sets.{origs_of, copies_of, zeros_of};
 ghost use Rattle.plain_machine.specs.Image.{laid_block, is_map_write, page_of_write, page_place};
 ghost use Rattle.sector_disk.specs.Called.{Called, OneCall};
+ghost use Rattle.image_write.specs.Kept.{writing};
 
 use crate::WriteStep;
 use crate::copies::Cursor;
@@ -47,11 +48,7 @@ pub struct Writer {
 }
 
 impl Model for Writer {
-    ghost use Rattle.image_write.specs.Writing.{Writing};
-
     ghost Value = { Writing };
-
-    ghost use Rattle.image_write.specs.Kept.{writing};
 
     ghost view = { writing };
 }

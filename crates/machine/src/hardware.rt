@@ -1,5 +1,6 @@
 ghost use Rattle.std.specs.Prelude.{◌≡◌, ℕ, ◌+◌, ◌^◌, ◌<◌, ◌≤◌, ◌↔◌, length, All, IsOk, IfOk, IfErr, Some, None};
-ghost use Rattle.plain_machine.specs.Machine.{IsHardware, IsIdent};
+ghost use Rattle.plain_machine.specs.Machine.{IsHardware, IsIdent, Hardware as PlainHardware};
+ghost use Rattle.machine.specs.KeptHardware.{kept_hardware, IsKept, kept_as, kept_as-kept_hardware};
 
 use crate::parts::{has_regions, has_slots, has_tables};
 use crate::regions::Regions;
@@ -66,11 +67,7 @@ pub struct Hardware {
 }
 
 impl Model for Hardware {
-    ghost use Rattle.plain_machine.specs.Machine.{Hardware as PlainHardware};
-
     ghost Value = { PlainHardware };
-
-    ghost use Rattle.machine.specs.KeptHardware.{kept_hardware, IsKept, kept_as, kept_as-kept_hardware};
 
     ghost view = { kept_hardware };
 

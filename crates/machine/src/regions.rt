@@ -1,4 +1,5 @@
-ghost use Rattle.std.specs.Prelude.{◌≡◌, ◌≤◌, length};
+ghost use Rattle.std.specs.Prelude.{◌≡◌, ◌≤◌, length, List, ℕ};
+ghost use Rattle.machine.specs.KeptRegions.{kept_regions, AreKeptRegions, kept_as, kept_as-kept_regions};
 
 use std::marker::Model;
 
@@ -14,11 +15,7 @@ pub(crate) struct Regions {
 }
 
 impl Model for Regions {
-    ghost use Rattle.std.specs.Prelude.{List, ℕ};
-
     ghost Value = { List (ℕ × ℕ × ℕ) };
-
-    ghost use Rattle.machine.specs.KeptRegions.{kept_regions, AreKeptRegions, kept_as, kept_as-kept_regions};
 
     ghost view = { kept_regions };
 

@@ -6,7 +6,8 @@ ghost use Rattle.std.specs.Prelude.{slice_get, slice_index, Contains};
 ghost use Rattle.definitions.specs.Moves.{Entry};
 ghost use Rattle.definitions.specs.Tables.{frame};
 ghost use Rattle.definitions.specs.Zones.{top};
-ghost use Rattle.placement.specs.Listed.{LiesIn, next_frame};
+ghost use Rattle.placement.specs.Listed.{LiesIn, next_frame, Listed};
+ghost use Rattle.placement.specs.KeptList.{kept_list, IsKept};
 
 use crate::planning::Placement;
 use frame_arena::Frames;
@@ -27,11 +28,7 @@ pub struct RestoreList<'a> {
 }
 
 impl<'a> Model for RestoreList<'a> {
-    ghost use Rattle.placement.specs.Listed.{Listed};
-
     ghost Value = { Listed };
-
-    ghost use Rattle.placement.specs.KeptList.{kept_list, IsKept};
 
     ghost view = { kept_list };
 

@@ -10,6 +10,7 @@ ghost use Rattle.placement.specs.Listed.{LiesIn};
 ghost use Rattle.placement.specs.Placed.{Placed, IsPlacement};
 ghost use Rattle.placement.specs.Performing.{performed};
 ghost use Rattle.placement.specs.Relocation.{order_of, steps_of, most_steps, IsPerformable, IsReady, Relocates};
+ghost use Rattle.placement.specs.Tables.{IsSized};
 
 mod order;
 mod runs;
@@ -33,11 +34,7 @@ pub struct Work {
 }
 
 impl Model for Work {
-    ghost use Rattle.std.specs.Prelude.{ℕ};
-
     ghost Value = { ℕ };
-
-    ghost use Rattle.placement.specs.Tables.{IsSized};
 
     ghost view = { λ w. w.order.top };
 

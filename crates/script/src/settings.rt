@@ -2,7 +2,7 @@ ghost use Rattle.std.specs.Prelude.{◌≡◌, ◌≤◌, ◌↔◌, All, IfSome
 ghost use Rattle.std.specs.List.{list_any};
 ghost use Rattle.script.specs.Settings.{hardware_by, is_faulty, or_default, tables_by, tables_in};
 ghost use Rattle.script.specs.Items.{with_setting};
-ghost use Rattle.script.specs.Settings.{zones_by};
+ghost use Rattle.script.specs.Settings.{zones_by, SettingsValue};
 ghost use Rattle.script.specs.Items.{AreFitting, IsFittingSetting, IsZoneLine};
 
 use crate::grammar::Setting;
@@ -32,8 +32,6 @@ pub struct Settings {
 }
 
 impl Model for Settings {
-    ghost use Rattle.script.specs.Settings.{SettingsValue};
-
     ghost Value = { SettingsValue };
 
     ghost view = { λ s. record {

@@ -1,8 +1,9 @@
-ghost use Rattle.std.specs.Prelude.{◌≡◌, ◌≤◌, ◌<◌, ◌++◌, [], ◌↔◌, min, take, drop, length, IsOk, IfOk, IfErr};
+ghost use Rattle.std.specs.Prelude.{◌≡◌, ◌≤◌, ◌<◌, ◌++◌, [], ◌↔◌, min, take, drop, length, IsOk, IfOk, IfErr, List, ℕ};
 ghost use Rattle.definitions.specs.Zones.{top};
 ghost use Rattle.stream_out.specs.Bytes.{bytes_of, plain_image};
 ghost use Rattle.stream_out.specs.Pages.{IsSaveableSet};
 ghost use Rattle.stream_out.specs.Bytes.{HasNoTaskSlot, IsFirstTaskSlot};
+ghost use Rattle.stream_out.specs.Kept.{left_of, IsKept};
 
 use crate::SlotsInUse;
 use crate::cursor::Cursor;
@@ -26,11 +27,7 @@ pub struct StreamOut<'a> {
 }
 
 impl<'a> Model for StreamOut<'a> {
-    ghost use Rattle.std.specs.Prelude.{List, ℕ};
-
     ghost Value = { List ℕ };
-
-    ghost use Rattle.stream_out.specs.Kept.{left_of, IsKept};
 
     ghost view = { left_of };
 

@@ -3,6 +3,7 @@ ghost use Rattle.definitions.specs.Slots.{block_of, extent_at, slots_before, slo
 ghost use Rattle.definitions.specs.FileMaps.{LieApart, IsInOrder, IsFileMap};
 ghost use Rattle.definitions.specs.FileMaps.{IsExtentFault};
 ghost use Rattle.swap_slots.specs.Extents.{Follows};
+ghost use Rattle.swap_slots.specs.KeptMap.{kept_extents, IsKeptMap, kept_as, kept_as-kept_extents};
 
 use std::marker::Model;
 
@@ -18,11 +19,7 @@ pub struct FileMap {
 }
 
 impl Model for FileMap {
-    ghost use Rattle.std.specs.Prelude.{List, ℕ};
-
     ghost Value = { List (ℕ × ℕ × ℕ) };
-
-    ghost use Rattle.swap_slots.specs.KeptMap.{kept_extents, IsKeptMap, kept_as, kept_as-kept_extents};
 
     ghost view = { kept_extents };
 

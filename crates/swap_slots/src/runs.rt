@@ -5,6 +5,7 @@ ghost use Rattle.definitions.specs.FreeRuns.{runs_of, free_runs};
 ghost use Rattle.definitions.specs.Tables.{HasTable};
 ghost use Rattle.definitions.specs.FrameSets.{inserted, removed};
 ghost use Rattle.swap_slots.specs.Runs.{SlotRuns, from_slot, IsFirstRun};
+ghost use Rattle.swap_slots.specs.Kept.{kept_runs, IsKept};
 
 use crate::words::{clear_bit, first_bit, has_bit, is_clear_word, set_bit};
 use crate::{SlotEntry, SlotTable};
@@ -25,11 +26,7 @@ pub struct FreeRuns {
 }
 
 impl Model for FreeRuns {
-    ghost use Rattle.swap_slots.specs.Runs.{SlotRuns};
-
     ghost Value = { SlotRuns };
-
-    ghost use Rattle.swap_slots.specs.Kept.{kept_runs, IsKept};
 
     ghost view = { kept_runs };
 

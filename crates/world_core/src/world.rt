@@ -5,6 +5,8 @@ ghost use Rattle.plain_machine.specs.Machine.{Memory, Fits};
 ghost use Rattle.machine.specs.Running.{AreReserved};
 ghost use Rattle.protocol_laws.specs.Rows.{TellsNewFault};
 ghost use Rattle.sector_disk.specs.Called.{Called};
+ghost use Rattle.world_core.specs.World.{World as WorldValue};
+ghost use Rattle.world_core.specs.Kept.{kept_world, IsKept};
 
 use frame_arena::Frames;
 use hib_core::waking::Waker;
@@ -51,11 +53,7 @@ pub(crate) enum Core {
 }
 
 impl Model for World {
-    ghost use Rattle.world_core.specs.World.{World as WorldValue};
-
     ghost Value = { WorldValue };
-
-    ghost use Rattle.world_core.specs.Kept.{kept_world, IsKept};
 
     ghost view = { kept_world };
 

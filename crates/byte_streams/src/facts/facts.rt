@@ -1,4 +1,5 @@
-ghost use Rattle.std.specs.Prelude.{◌≡◌, ◌+◌, ◌<◌, ◌≤◌, [], ◌∷◌, ◌++◌, length};
+ghost use Rattle.std.specs.Prelude.{◌≡◌, ◌+◌, ◌<◌, ◌≤◌, [], ◌∷◌, ◌++◌, length, List};
+ghost use Rattle.std.specs.Coded.{coded_list};
 
 use arrayvec::ArrayVec;
 use std::marker::Model;
@@ -10,9 +11,6 @@ pub struct Facts<F, const MOST: usize> {
 }
 
 impl<F, const MOST: usize> Model for Facts<F, MOST> {
-    ghost use Rattle.std.specs.Prelude.{List};
-    ghost use Rattle.std.specs.Coded.{coded_list};
-
     ghost Value = { List F };
 
     ghost coded = { coded_list F.code };

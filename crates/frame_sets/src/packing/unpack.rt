@@ -1,6 +1,7 @@
 ghost use Rattle.std.specs.Prelude.{◌≡◌, ℕ, ◌+◌, ◌-◌, ◌*◌, ◌^◌, ◌<◌, ◌≤◌, ◌↔◌, ◌++◌, Some, None, Ok, Err, IsOk, IsTrue};
 ghost use Rattle.std.specs.Prelude.{OnOk, OnErr, IfOk, IsSome, IfSome, Option};
 ghost use Rattle.definitions.specs.Bytes.{word};
+ghost use Rattle.frame_sets.specs.Unpacked.{Unpacked};
 
 use crate::{Bitmap, Zones};
 use definitions::WORDS_PER_PAGE;
@@ -39,8 +40,6 @@ pub struct Unpack {
 }
 
 impl Model for Unpack {
-    ghost use Rattle.frame_sets.specs.Unpacked.{Unpacked};
-
     ghost Value = { Unpacked };
 
     ghost view = { λ a. record { n = a.n; format = a.format; read = a.read; last = a.last } };

@@ -1,6 +1,7 @@
 ghost use Rattle.std.specs.Prelude.{◌≡◌, ◌<◌, ◌≤◌, ◌↔◌, Err, IsOk, IfOk, IfErr, IfSome, IsSome};
 ghost use Rattle.definitions.specs.SwapMap.{map_entry, map_link};
 ghost use Rattle.definitions.specs.declared.counts.TheConstants.{MAP_PAGE_ENTRIES};
+ghost use Rattle.image_format.specs.MapPages.{NumberedPage};
 
 use crate::map::ENTRIES;
 use page_core::Page;
@@ -26,8 +27,6 @@ pub struct MapReader {
 }
 
 impl Model for MapReader {
-    ghost use Rattle.image_format.specs.MapPages.{NumberedPage};
-
     ghost Value = { NumberedPage };
 
     ghost view = { λ a. record { page = a.page; map = a.map } };

@@ -1,6 +1,8 @@
 ghost use Rattle.std.specs.Prelude.{◌≡◌, ◌<◌, ◌≤◌, ◌↔◌, [], ◌∷◌, ◌++◌, length};
 ghost use Rattle.definitions.specs.SwapMap.{map_page};
 ghost use Rattle.definitions.specs.declared.counts.TheConstants.{MAP_PAGE_ENTRIES};
+ghost use Rattle.image_format.specs.MapPages.{MapEntries};
+ghost use Rattle.image_format.specs.Writer.{kept_entries, IsKept};
 
 use crate::map::ENTRIES;
 use page_core::Page;
@@ -22,11 +24,7 @@ pub struct MapWriter {
 }
 
 impl Model for MapWriter {
-    ghost use Rattle.image_format.specs.MapPages.{MapEntries};
-
     ghost Value = { MapEntries };
-
-    ghost use Rattle.image_format.specs.Writer.{kept_entries, IsKept};
 
     ghost view = { kept_entries };
 
