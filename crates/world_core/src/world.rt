@@ -181,7 +181,7 @@ impl World {
         match event {
             Event::Boot(from) => self.boot(disk.blocks(), from),
             Event::Task(t, op) => self.task(t, op),
-            Event::Step(actor) => self.step_of(disk, actor),
+            Event::Step(actor) => self.step(disk, actor),
             Event::Hibernate(format) => self.begin(Job::Hibernate(format)),
             Event::Suspend(format) => self.begin(Job::Suspend(format)),
             Event::Wake => self.wake(),
@@ -193,8 +193,8 @@ impl World {
         }
     }
 
-    /// A step of an actor.
-    fn step_of<D: Disk>(&mut self, disk: &mut D, actor: Actor) -> Reply
+    /// Makes the next step of the core or of a task.
+    fn step<D: Disk>(&mut self, disk: &mut D, actor: Actor) -> Reply
         requires actor { IsFittingActor actor }
         requires blocks { IsOff self.old ⊎ (D.block_count disk.old ≡ blocks_of self.old) }
         ensures row { SimulatesWhereTold (event.Step actor) self.old self.new result (D.content disk.old)
@@ -212,34 +212,15 @@ impl World {
         ensures memory { LeavesMemory (event.Step actor) self.old result self.new }
     {
         match actor {
-            Actor::Core => self.step(disk),
             Actor::Task(t) => self.step_task(disk, t),
-        }
-    }
-
-    fn step<D: Disk>(&mut self, disk: &mut D) -> Reply
-        requires blocks { IsOff self.old ⊎ (D.block_count disk.old ≡ blocks_of self.old) }
-        ensures row { SimulatesWhereTold (event.Step actor.Core) self.old self.new result (D.content disk.old)
-            (D.content disk.new) }
-        ensures restored { Restores (event.Step actor.Core) self.old self.new result (D.content disk.old)
-            (D.content disk.new) }
-        ensures image { TellsImage (event.Step actor.Core) self.old result (D.content disk.old) }
-        ensures called { Called D.Disk (CallsAtMostOnce (event.Step actor.Core) result) (TellsNewFault result)
-            disk.old disk.new }
-        ensures hardware { hardware_of self.new ≡ hardware_of self.old }
-        ensures blocks { blocks_of self.new ≡ blocks_of self.old }
-        ensures off { IsOff self.old → IsOff self.new }
-        ensures refused { IsRefused (event.Step actor.Core) self.old result → ChangesNothing self.old self.new }
-        ensures ends { Ends (event.Step actor.Core) self.old result self.new }
-        ensures memory { LeavesMemory (event.Step actor.Core) self.old result self.new }
-    {
-        match self.core {
-            Core::Off { .. } | Core::Running | Core::Asleep => Reply::Idle,
-            Core::BootBegun(from) => self.sync_for_boot(disk, from),
-            Core::BootSynced(from) => self.finish_boot(disk, from),
-            Core::Hibernating => self.step_hibernation(disk),
-            Core::Waking => self.step_wake(disk),
-            Core::Loading => self.step_resume(disk),
+            Actor::Core => match self.core {
+                Core::Off { .. } | Core::Running | Core::Asleep => Reply::Idle,
+                Core::BootBegun(from) => self.sync_for_boot(disk, from),
+                Core::BootSynced(from) => self.finish_boot(disk, from),
+                Core::Hibernating => self.step_hibernation(disk),
+                Core::Waking => self.step_wake(disk),
+                Core::Loading => self.step_resume(disk),
+            },
         }
     }
 }

@@ -12,7 +12,7 @@ returns-in-Task-clause-row g c = λ k told. (k, told, subst (λ (e : Event). Sim
 
 pub returns-in-Step-clause-row : goal.returns-in-Step-clause-row
 returns-in-Step-clause-row g c =
-    subst (λ (e : Event). SimulatesWhereTold e c.args.self.now c.step_of.new.self c.step_of.result (g.D.Disk.content c.args.disk.now) (g.D.Disk.content c.step_of.new.disk)) (sym c.in-Step.is) c.step_of.ensures.row
+    subst (λ (e : Event). SimulatesWhereTold e c.args.self.now c.step.new.self c.step.result (g.D.Disk.content c.args.disk.now) (g.D.Disk.content c.step.new.disk)) (sym c.in-Step.is) c.step.ensures.row
 
 pub returns-in-Hibernate-clause-row : goal.returns-in-Hibernate-clause-row
 returns-in-Hibernate-clause-row g c = λ k told. (k, told, subst (λ (e : Event). Simulates e c.args.self.now c.begin.new.self c.begin.result k k) (sym c.in-Hibernate.is) (c.begin.ensures.row k))
@@ -73,8 +73,8 @@ returns-in-Arm-clause-inside g c = λ no tells v left.
 
 pub returns-in-Step-clause-inside : goal.returns-in-Step-clause-inside
 returns-in-Step-clause-inside g c = λ no tells v left.
-    inside (g.D.Disk.moment c.args.disk.now) (g.D.Disk.moment c.step_of.new.disk) (g.D.Disk.left_since c.args.disk.now) (g.D.Disk.left_since c.step_of.new.disk) (g.D.Disk.content c.args.disk.now) (g.D.Disk.content c.step_of.new.disk) v
-    (c.step_of.ensures.called.time tells) (g.met.D.Disk.only_now c.args.disk.now v tells) left
+    inside (g.D.Disk.moment c.args.disk.now) (g.D.Disk.moment c.step.new.disk) (g.D.Disk.left_since c.args.disk.now) (g.D.Disk.left_since c.step.new.disk) (g.D.Disk.content c.args.disk.now) (g.D.Disk.content c.step.new.disk) v
+    (c.step.ensures.called.time tells) (g.met.D.Disk.only_now c.args.disk.now v tells) left
 
 pub returns-in-Cut-clause-inside : goal.returns-in-Cut-clause-inside
 returns-in-Cut-clause-inside g c = λ no. absurd (subst IsNoCut c.in-Cut.is no)
@@ -109,7 +109,7 @@ pub returns-in-Arm-clause-time : goal.returns-in-Arm-clause-time
 returns-in-Arm-clause-time g c = λ no tells. c.arm.ensures.time tells
 
 pub returns-in-Step-clause-time : goal.returns-in-Step-clause-time
-returns-in-Step-clause-time g c = λ no tells. c.step_of.ensures.called.time tells
+returns-in-Step-clause-time g c = λ no tells. c.step.ensures.called.time tells
 
 pub returns-in-Cut-clause-time : goal.returns-in-Cut-clause-time
 returns-in-Cut-clause-time g c = λ no. absurd (subst IsNoCut c.in-Cut.is no)
