@@ -90,8 +90,7 @@ impl Hib {
         ensures refused { IsRefusedWith result → LeavesFrames frames.old frames.new result }
         ensures memory { BeginsImage machine.now.hw frames.old frames.new ⊎ (frames.new ≡ frames.old) }
     {
-        // The prover knows the bounds of a field's type only once the field is read.
-        let _blocks = machine.blocks;
+        machine.blocks_fit();
         machine.hw.is_hardware();
         self.stage = Stage::Idle;
         match self.accept(machine, frames, runs, format) {
@@ -168,8 +167,7 @@ impl Hib {
         ensures matches { Matches frames.new (slot_table_of machine.now.hw) runs.new }
         ensures size { length frames.new ≡ length frames.old }
     {
-        // The prover knows the bounds of a field's type only once the field is read.
-        let _blocks = machine.blocks;
+        machine.blocks_fit();
         let (zones, table) = (machine.hw.zones(), machine.hw.frame_table());
         self.snapshot.copy(frames, zones, table);
         frames.are_pages();
