@@ -9,7 +9,7 @@ use Rattle.definitions.proofs.Marks.{taken_back-marked}
 use Rattle.image_format.specs.declared.signature.area.Area.{Area}
 use Rattle.plain_machine.specs.Image.{maps_of}
 use Rattle.plain_machine.specs.Image.{laid_block, laid_write, page_of_write}
-use Rattle.swap_slots.specs.declared.table.SlotTable.{SlotTable}
+use Rattle.stream_in.specs.declared.slots.SlotMemory.{SlotMemory}
 use Rattle.image_write.specs.Writing.{Writing, BlocksBelow}
 use Rattle.image_write.proofs.Done.{place_of, block_of_write, place_below}
 use Rattle.protocol_laws.proofs.Areas.{last_of_swap}
@@ -32,19 +32,20 @@ no_short : (b : Bool) (x : StreamFault) → cond b None (Some x) ≡ None → b 
 no_short true x e = refl
 no_short false x e = cc
 
-has_room : (free bs : List ℕ) (frames : List (List ℕ)) (table : SlotTable) (extents : List (ℕ × ℕ × ℕ)) (w : Option Writing) → IsOutput free bs frames table extents w → 4096 ≤ length bs → all_pages bs + 1026 ≤ length free
-has_room free bs frames table extents None out late = let early = out.early in absurd (omega arith)
-has_room free bs frames table extents (Some w) out late = out.room
+-- once the info page is whole, enough slots are free
+pub has_room : (free bs : List ℕ) (memory : SlotMemory) (extents : List (ℕ × ℕ × ℕ)) (w : Option Writing) → IsOutput free bs memory extents w → 4096 ≤ length bs → all_pages bs + 1026 ≤ length free
+has_room free bs memory extents None out late = let early = out.early in absurd (omega arith)
+has_room free bs memory extents (Some w) out late = out.room
 
 -- the writer's first block
-pub first_block_of : (free bs : List ℕ) (frames : List (List ℕ)) (table : SlotTable) (extents : List (ℕ × ℕ × ℕ)) (o : Option Writing) (first : ℕ) → IsOutput free bs frames table extents o → short_fault bs ≡ None →
+pub first_block_of : (free bs : List ℕ) (memory : SlotMemory) (extents : List (ℕ × ℕ × ℕ)) (o : Option Writing) (first : ℕ) → IsOutput free bs memory extents o → short_fault bs ≡ None →
     ((w : Writing) → o ≡ Some w → first ≡ w.first) → first ≡ laid_block extents free 0
-first_block_of free bs frames table extents None first out whole is =
+first_block_of free bs memory extents None first out whole is =
     let parts = and_parts (leb 4096 (length bs)) (leb (4096 * all_pages bs) (length bs)) (no_short (is_whole bs) (fault Short (length bs)) whole) in
     let late = leb-true 4096 (length bs) parts.0 in
     let early = out.early in
     absurd (omega arith)
-first_block_of free bs frames table extents (Some w) first out whole is = is w refl ∙ out.first
+first_block_of free bs memory extents (Some w) first out whole is = is w refl ∙ out.first
 
 pub whole_for : (area : Area) (free bs : List ℕ) (s : StreamIn) → TakesInto area free bs s → short_fault bs ≡ None → IsWholeFor area free bs s.blocks
 whole_for area free bs s into whole =
@@ -60,7 +61,7 @@ whole_for area free bs s into whole =
       size = omega arith;
       some = omega arith;
       few = omega arith;
-      room = has_room free bs s.frames s.table s.map s.writer fed.output late;
+      room = has_room free bs s.memory s.map s.writer fed.output late;
       on_disk = subst (λ (x : List (ℕ × ℕ × ℕ)). BlocksBelow x free (length free) s.blocks) into.map_is fed.on_disk;
       count = fed.count;
       of_map = subst (λ (x : List (ℕ × ℕ × ℕ)). AreOfMap x free) into.map_is into.of_map;

@@ -1,22 +1,28 @@
 -- A newly opened session.
-use Rattle.std.proofs.Common.{sym, ◌≡◌, ℕ, ◌+◌, ◌*◌, ◌/◌, ◌%◌, ◌<◌, ◌≤◌, eqb, cond, filter, suc, Bool, true, false, inl, inr, List, [], ◌∷◌, length, take, drop, get_or, replicate, ap, ◌∙◌, subst, arith}
+use Rattle.std.proofs.Common.{refl, sym, ◌≡◌, ℕ, ◌+◌, ◌*◌, ◌/◌, ◌%◌, ◌<◌, ◌≤◌, eqb, cond, filter, suc, Bool, true, false, inl, inr, List, [], ◌∷◌, length, take, drop, get_or, replicate, ap, ◌∙◌, subst, arith}
 use Rattle.std.specs.List.{All, Contains, range_with_len}
 use Rattle.std.proofs.lemmas.List.{length-replicate, get_or-replicate, get_or-drop}
 use Rattle.std.proofs.lemmas.List.Elements.{All-replicate, Contains-get_or}
 use Rattle.std.proofs.lemmas.List.FromFn.{length-range_with_len}
 use Rattle.definitions.specs.Bytes.{IsPage, zero_page, number_at}
 use Rattle.definitions.specs.Tables.{free_slots}
+use Rattle.definitions.specs.FreeRuns.{runs_of, free_runs}
 use Rattle.definitions.specs.Tables.{entry_at, with_entries, HasTable}
 use Rattle.definitions.proofs.Ascending.{Contains-cons_cases}
 use Rattle.definitions.proofs.PageBytes.{length-zero_page, get_or-zero_page}
 use Rattle.definitions.proofs.FreeSlots.{Contains-free_slots, free_slot, IsStrictlyIncreasing-free_slots}
-use Rattle.definitions.proofs.TableEntries.{length-with_entries, entry_at-with_entries_same, entry_at-with_entries_other}
+use Rattle.definitions.proofs.TableEntries.{entry_at-with_entries_same, entry_at-with_entries_other}
 use Rattle.image_format.specs.declared.signature.area.Area.{Area}
 use Rattle.plain_machine.specs.UsableArea.{bad_slots_of}
 use Rattle.image_write.specs.Writing.{BlocksBelow}
 use Rattle.definitions.specs.FileMaps.{IsFileMap}
 use Rattle.stream_in.specs.Holding.{AreOfMap}
 use Rattle.stream_in.specs.Area.{AreUsable, HasBounds}
+
+-- a table without slots has no runs of free ones
+pub no_runs : (frames : List (List ℕ)) → [] ≡ free_runs 0 0 frames
+unfolding runs_of free_slots
+no_runs frames = refl
 
 zero_number : (k : ℕ) → k + 4 ≤ 4096 → number_at 4 zero_page k ≡ 0
 unfolding number_at
@@ -80,9 +86,6 @@ usable_slots area frames t =
           let other = entry_at-with_entries_other fresh 0 n bad 131072 s fresh_pages within (λ k in'. (bad_below area t.bounds k in', λ e. not_bad (subst (λ (x : ℕ). Contains bad x) e in'))) in
           Contains-free_slots n 0 frames s (omega arith) (ap (λ f. entry_at f 0 s) is ∙ other ∙ fresh_entry s (omega arith));
     }
-
-pub length-table : (area : Area) (frames : List (List ℕ)) → IsTable area frames → length frames ≡ 128
-length-table area frames t = ap length t.frames_are ∙ length-with_entries (replicate 128 zero_page) 0 (bad_slots_of area) 131072 ∙ length-replicate {A = List ℕ} 128 zero_page
 
 fewer : (p : ℕ → Bool) (xs : List ℕ) → length (filter p xs) ≤ length xs
 fewer p [] = omega arith

@@ -5,7 +5,7 @@ use Rattle.std.proofs.lemmas.List.{take-append-le, drop-append-le, length-take-l
 use Rattle.std.proofs.lemmas.Grind.{same_number_lists}
 use Rattle.definitions.specs.Disk.{Content, Changes, DiskImage, as_it_reads, block}
 use Rattle.stream_in.proofs.Contents.{changes_none, changes_then}
-use Rattle.swap_slots.specs.declared.table.SlotTable.{SlotTable}
+use Rattle.stream_in.specs.declared.slots.SlotMemory.{SlotMemory}
 use Rattle.plain_machine.specs.Image.{maps_of}
 use Rattle.plain_machine.specs.Image.{is_map_write, page_of_write}
 use Rattle.image_write.specs.Writing.{Writing}
@@ -70,9 +70,9 @@ next_page bs part page full =
     (λ i lt. let below : i < 4096 = (let w = full.whole in omega arith) in full.bytes i below ∙ ap (λ k. get_or (bs ++ part) (k + i) 0) at
     ∙ sym (get_or-take 4096 (drop (4096 * (length bs / 4096)) (bs ++ part)) i 0 below ∙ get_or-drop (4096 * (length bs / 4096)) (bs ++ part) i 0))
 
-pub page_count : (free bs part page : List ℕ) (frames : List (List ℕ)) (table : SlotTable) (extents : List (ℕ × ℕ × ℕ)) (w : Option Writing) → IsFull bs part page → IsOutput free bs frames table extents w → length bs / 4096 ≡ pages_written w
-page_count free bs part page frames table extents None full out = let early = out.early in omega arith
-page_count free bs part page frames table extents (Some w) full out =
+pub page_count : (free bs part page : List ℕ) (memory : SlotMemory) (extents : List (ℕ × ℕ × ℕ)) (w : Option Writing) → IsFull bs part page → IsOutput free bs memory extents w → length bs / 4096 ≡ pages_written w
+page_count free bs part page memory extents None full out = let early = out.early in omega arith
+page_count free bs part page memory extents (Some w) full out =
     let sound = sound_full bs part page full in
     let late = out.late in
     let size = full.size in
@@ -85,13 +85,13 @@ page_count free bs part page frames table extents (Some w) full out =
     omega arith
 
 -- with a full page more is written
-written_full : (free bs part page : List ℕ) (old frames : List (List ℕ)) (table : SlotTable) (extents : List (ℕ × ℕ × ℕ)) (w : Option Writing) (new : Writing) → IsFull bs part page → IsOutput free bs old table extents w → IsBegun free (bs ++ part) frames table extents new →
+written_full : (free bs part page : List ℕ) (old memory : SlotMemory) (extents : List (ℕ × ℕ × ℕ)) (w : Option Writing) (new : Writing) → IsFull bs part page → IsOutput free bs old extents w → IsBegun free (bs ++ part) memory extents new →
     (x y : Content) → MakesMore extents free (pages_in page w) (page_at (bs ++ part)) (writes_made w) new.written x y → WritesOn extents free bs part x y
-written_full free bs part page old frames table extents None new full out begun x y makes written late =
+written_full free bs part page old memory extents None new full out begun x y makes written late =
     let info = first_info bs part page full out.early in
     read_same extents free (all_pages page) (all_pages (bs ++ part)) new.written (writes_after (all_pages (bs ++ part)) (length (bs ++ part) / 4096)) (page_at (bs ++ part)) (as_it_reads y)
     info.page_count begun.written (makes (λ j lt. absurd (omega arith)))
-written_full free bs part page old frames table extents (Some w) new full out begun x y makes written late' =
+written_full free bs part page old memory extents (Some w) new full out begun x y makes written late' =
     let sound = sound_full bs part page full in
     let late = out.late in
     let size = full.size in
@@ -108,12 +108,12 @@ written_full free bs part page old frames table extents (Some w) new full out be
     (out.pages ∙ sym count) begun.written (makes made)
 
 -- and where the writer stands after it
-pub written_on : (free bs part page : List ℕ) (old frames : List (List ℕ)) (table : SlotTable) (extents : List (ℕ × ℕ × ℕ)) (w new : Option Writing) → IsFull bs part page → IsOutput free bs old table extents w →
-    IsSomeAnd new (λ next. HasPut free frames table extents page w next) → Suffice free page w →
+pub written_on : (free bs part page : List ℕ) (old memory : SlotMemory) (extents : List (ℕ × ℕ × ℕ)) (w new : Option Writing) → IsFull bs part page → IsOutput free bs old extents w →
+    IsSomeAnd new (λ next. HasPut free memory extents page w next) → Suffice free page w →
     (x y : Content) → MakesMore extents free (pages_in page w) (page_at (bs ++ part)) (writes_made w) (writes_made new) x y → WritesOn extents free bs part x y
-written_on free bs part page old frames table extents w None full out put enough = absurd put
-written_on free bs part page old frames table extents w (Some next) full out put enough =
-    written_full free bs part page old frames table extents w next full out (has_output free bs part page old frames table extents w next full out put enough)
+written_on free bs part page old memory extents w None full out put enough = absurd put
+written_on free bs part page old memory extents w (Some next) full out put enough =
+    written_full free bs part page old memory extents w next full out (has_output free bs part page old memory extents w next full out put enough)
 
 -- where the stream goes on without a fault, it isn't whole
 pub goes_on : (bs part : List ℕ) → first_fault (bs ++ part) ≡ None → 0 < length part → 4096 ≤ length bs → length bs < 4096 * all_pages bs

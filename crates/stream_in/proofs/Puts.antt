@@ -9,6 +9,7 @@ use Rattle.image_write.specs.declared.write_step.WriteStep.{WriteStep}
 use Rattle.image_write.specs.declared.write_step.WriteStep.TheVariants.{More, Done, Fault}
 use Rattle.image_write.proofs.Places.{page_write, page_is_one}
 use Rattle.stream_in.specs.Putting.{is_map_next, IsPagePut}
+use Rattle.stream_in.specs.declared.slots.SlotMemory.{SlotMemory}
 use Rattle.stream_in.specs.Holding.{writes_after}
 
 -- what a put of the writer says
@@ -152,17 +153,20 @@ three_writes pages n at f g =
 same_image : (a b c : Writing) → IsSameImage a b → IsSameImage b c → IsSameImage a c
 same_image a b c h i = record { info = i.info ∙ h.info; extents = i.extents ∙ h.extents; table = i.table ∙ h.table; first = i.first ∙ h.first }
 
-pub put_one : (free : List ℕ) (f0 f1 : List (List ℕ)) (w0 w1 : Writing) (r1 : WriteStep) → IsWriting free f0 w0 → is_map_write w0.info.pages w0.written ≡ false → IsPut free f1 w0 w1 r1 → Succeeds r1 → is_map_next r1 ≡ false → IsPagePut free f1 w0 w1
-put_one free f0 f1 w0 w1 r1 h page p1 ok none =
+pub put_one : (free : List ℕ) (f0 : List (List ℕ)) (memory : SlotMemory) (w0 w1 : Writing) (r1 : WriteStep) → w0.table ≡ memory.table → IsWriting free f0 w0 → is_map_write w0.info.pages w0.written ≡ false → IsPut free memory.frames w0 w1 r1 → Succeeds r1 → is_map_next r1 ≡ false →
+    IsPagePut free memory w0 w1
+put_one free f0 memory w0 w1 r1 table h page p1 ok none =
+    let f1 = memory.frames in
     let l = last free f1 w0 w1 r1 p1 ok in
     let at = at_page w0.info.pages w0.written h.unfinished page in
     let count = one_write w0.info.pages w0.written at (last_not free f1 w0 w1 r1 p1 ok none) in
     let wrote = l.written in
-    record { image = l.image; written = wrote ∙ count; going = λ lt. l.going (λ e. omega arith) }
+    record { image = l.image; table_is = l.image.table ∙ table; written = wrote ∙ count; going = λ lt. l.going (λ e. omega arith) }
 
-pub put_two : (free : List ℕ) (f0 f1 f2 : List (List ℕ)) (w0 w1 w2 : Writing) (r1 r2 : WriteStep) → IsWriting free f0 w0 → is_map_write w0.info.pages w0.written ≡ false → IsPut free f1 w0 w1 r1 → is_map_next r1 ≡ true →
-    IsPut free f2 w1 w2 r2 → Succeeds r2 → is_map_next r2 ≡ false → IsPagePut free f2 w0 w2
-put_two free f0 f1 f2 w0 w1 w2 r1 r2 h page p1 map1 p2 ok none =
+pub put_two : (free : List ℕ) (f0 f1 : List (List ℕ)) (memory : SlotMemory) (w0 w1 w2 : Writing) (r1 r2 : WriteStep) → w0.table ≡ memory.table → IsWriting free f0 w0 → is_map_write w0.info.pages w0.written ≡ false → IsPut free f1 w0 w1 r1 → is_map_next r1 ≡ true →
+    IsPut free memory.frames w1 w2 r2 → Succeeds r2 → is_map_next r2 ≡ false → IsPagePut free memory w0 w2
+put_two free f0 f1 memory w0 w1 w2 r1 r2 table h page p1 map1 p2 ok none =
+    let f2 = memory.frames in
     let one = followed free f1 w0 w1 r1 p1 map1 in
     let l = last free f2 w1 w2 r2 p2 ok in
     let at = at_page w0.info.pages w0.written h.unfinished page in
@@ -173,11 +177,13 @@ put_two free f0 f1 f2 w0 w1 w2 r1 r2 h page p1 map1 p2 ok none =
     let end = subst P k (subst Q of (last_not free f2 w1 w2 r2 p2 ok none)) in
     let count = two_writes w0.info.pages w0.written at one.follows end in
     let wrote = l.written in
-    record { image = same_image w0 w1 w2 one.image l.image; written = wrote ∙ k ∙ count; going = λ lt. l.going (λ e. omega arith) }
+    let image = same_image w0 w1 w2 one.image l.image in
+    record { image = image; table_is = image.table ∙ table; written = wrote ∙ k ∙ count; going = λ lt. l.going (λ e. omega arith) }
 
-pub put_three : (free : List ℕ) (f0 f1 f2 f3 : List (List ℕ)) (w0 w1 w2 w3 : Writing) (r1 r2 r3 : WriteStep) → IsWriting free f0 w0 → is_map_write w0.info.pages w0.written ≡ false → IsPut free f1 w0 w1 r1 → is_map_next r1 ≡ true →
-    IsPut free f2 w1 w2 r2 → is_map_next r2 ≡ true → IsPut free f3 w2 w3 r3 → Succeeds r3 → IsPagePut free f3 w0 w3
-put_three free f0 f1 f2 f3 w0 w1 w2 w3 r1 r2 r3 h page p1 map1 p2 map2 p3 ok =
+pub put_three : (free : List ℕ) (f0 f1 f2 : List (List ℕ)) (memory : SlotMemory) (w0 w1 w2 w3 : Writing) (r1 r2 r3 : WriteStep) → w0.table ≡ memory.table → IsWriting free f0 w0 → is_map_write w0.info.pages w0.written ≡ false → IsPut free f1 w0 w1 r1 → is_map_next r1 ≡ true →
+    IsPut free f2 w1 w2 r2 → is_map_next r2 ≡ true → IsPut free memory.frames w2 w3 r3 → Succeeds r3 → IsPagePut free memory w0 w3
+put_three free f0 f1 f2 memory w0 w1 w2 w3 r1 r2 r3 table h page p1 map1 p2 map2 p3 ok =
+    let f3 = memory.frames in
     let one = followed free f1 w0 w1 r1 p1 map1 in
     let two = followed free f2 w1 w2 r2 p2 map2 in
     let l = last free f3 w2 w3 r3 p3 ok in
@@ -191,7 +197,8 @@ put_three free f0 f1 f2 f3 w0 w1 w2 w3 r1 r2 r3 h page p1 map1 p2 map2 p3 ok =
     let end = subst P k (subst Q of two.follows) in
     let count = three_writes w0.info.pages w0.written at one.follows end in
     let wrote = l.written in
-    record { image = same_image w0 w2 w3 (same_image w0 w1 w2 one.image two.image) l.image; written = wrote ∙ k2 ∙ count; going = λ lt. l.going (λ e. omega arith) }
+    let image = same_image w0 w2 w3 (same_image w0 w1 w2 one.image two.image) l.image in
+    record { image = image; table_is = image.table ∙ table; written = wrote ∙ k2 ∙ count; going = λ lt. l.going (λ e. omega arith) }
 
 -- the blocks are those of the same slots, and the disk has as many
 pub still_below : (free : List ℕ) (w0 w1 w2 : Writing) (before now : ℕ) → IsSameImage w0 w1 → IsSameImage w1 w2 → now ≡ before → BlocksBelow w0.extents free (writes_of w0.info) before → BlocksBelow w2.extents free (writes_of w2.info) now

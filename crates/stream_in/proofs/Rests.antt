@@ -7,7 +7,7 @@ use Rattle.image_write.specs.Answers.{after}
 use Rattle.image_write.specs.Writing.{Writing, writes_of}
 use Rattle.image_write.specs.declared.write_step.WriteStep.{WriteStep}
 use Rattle.image_write.specs.declared.write_step.WriteStep.TheVariants.{More, Done, Fault}
-use Rattle.swap_slots.specs.declared.table.SlotTable.{SlotTable}
+use Rattle.stream_in.specs.declared.slots.SlotMemory.{SlotMemory}
 use Rattle.stream_in.specs.Outside.{KeepsOutside, IsAtRest, PutsAtRest, FailsAtRest, KeepsAtRest, WritesAtRest, StopsAtRest}
 use Rattle.stream_in.specs.Grammar.{image_pages, all_pages}
 use Rattle.stream_in.proofs.Steps.{counts_from}
@@ -69,35 +69,35 @@ told_made extents free count pages k m begins a b c rests made =
     (λ x y z rest more before. more (subst (λ (v : DiskImage). ReadAsMade extents free count pages k v) (sym (reads_at_rest begins x y rest)) before)) rests made
 
 -- a put takes at most three calls: only the first page has the sync before it, and no map follows that page
-pub few_calls : (free : List ℕ) (frames : List (List ℕ)) (table : SlotTable) (extents : List (ℕ × ℕ × ℕ)) (blocks : ℕ) (page : List ℕ) (w : Option Writing) (next : Writing) (begins : Bool) (before mid now : ℕ) → CanPut free frames table extents blocks page w → begins ≡ is_none w → next.info.pages ≡ pages_in page w → next.written ≡ writes_made w →
+pub few_calls : (free : List ℕ) (memory : SlotMemory) (extents : List (ℕ × ℕ × ℕ)) (blocks : ℕ) (page : List ℕ) (w : Option Writing) (next : Writing) (begins : Bool) (before mid now : ℕ) → CanPut free memory extents blocks page w → begins ≡ is_none w → next.info.pages ≡ pages_in page w → next.written ≡ writes_made w →
     (begins ≡ false → mid ≡ before) → mid ≤ before + 1 → now ≤ mid + 3 → (next.written ≡ 0 → 3 ≤ next.info.pages → now ≤ mid + 1) → now ≤ before + 3
-few_calls free frames table extents blocks page None next begins before mid now can is pages made same rest put first =
+few_calls free memory extents blocks page None next begins before mid now can is pages made same rest put first =
     let are = counts_from (image_pages page) (all_pages page) can.counts in
     let all = are.all in
     let some = are.some in
     let few : now ≤ mid + 1 = first made (omega arith) in
     omega arith
-few_calls free frames table extents blocks page (Some w) next begins before mid now can is pages made same rest put first =
+few_calls free memory extents blocks page (Some w) next begins before mid now can is pages made same rest put first =
     let still_called : mid ≡ before = same is in
     omega arith
 
 -- A stream.
 
-keeps_at_rest : (free bs : List ℕ) (frames : List (List ℕ)) (table : SlotTable) (extents : List (ℕ × ℕ × ℕ)) (w : Option Writing) (x z : Content) → IsOutput free bs frames table extents w → PutsAtRest extents free w x z → KeepsAtRest extents free (length bs) x z
-keeps_at_rest free bs frames table extents None x z out puts = record { first = λ lt. puts; later = λ le. let early = out.early in absurd (omega arith) }
-keeps_at_rest free bs frames table extents (Some w) x z out puts = record { first = λ lt. let late = out.late in absurd (omega arith); later = λ le. puts }
+keeps_at_rest : (free bs : List ℕ) (memory : SlotMemory) (extents : List (ℕ × ℕ × ℕ)) (w : Option Writing) (x z : Content) → IsOutput free bs memory extents w → PutsAtRest extents free w x z → KeepsAtRest extents free (length bs) x z
+keeps_at_rest free bs memory extents None x z out puts = record { first = λ lt. puts; later = λ le. let early = out.early in absurd (omega arith) }
+keeps_at_rest free bs memory extents (Some w) x z out puts = record { first = λ lt. let late = out.late in absurd (omega arith); later = λ le. puts }
 
 -- a page is full with these bytes
-pub told_full : (free bs part : List ℕ) (frames : List (List ℕ)) (table : SlotTable) (extents : List (ℕ × ℕ × ℕ)) (w : Option Writing) (a b : Option Content) → 4096 ≤ length (bs ++ part) → IsOutput free bs frames table extents w → Changes (PutsAtRest extents free w) a b →
+pub told_full : (free bs part : List ℕ) (memory : SlotMemory) (extents : List (ℕ × ℕ × ℕ)) (w : Option Writing) (a b : Option Content) → 4096 ≤ length (bs ++ part) → IsOutput free bs memory extents w → Changes (PutsAtRest extents free w) a b →
     Changes (WritesAtRest extents free (length bs) (length (bs ++ part))) a b
-told_full free bs part frames table extents w a b full out puts =
+told_full free bs part memory extents w a b full out puts =
     changes_as (PutsAtRest extents free w) (WritesAtRest extents free (length bs) (length (bs ++ part))) a b
-    (λ x y p. record { early = λ lt. absurd (omega arith); late = λ le. keeps_at_rest free bs frames table extents w x y out p }) puts
+    (λ x y p. record { early = λ lt. absurd (omega arith); late = λ le. keeps_at_rest free bs memory extents w x y out p }) puts
 
-pub told_stop : (free bs : List ℕ) (frames : List (List ℕ)) (table : SlotTable) (extents : List (ℕ × ℕ × ℕ)) (w : Option Writing) (a b : Option Content) → IsOutput free bs frames table extents w → Changes (FailsAtRest extents free w) a b → Changes (StopsAtRest extents free (length bs)) a b
-told_stop free bs frames table extents w a b out fails =
+pub told_stop : (free bs : List ℕ) (memory : SlotMemory) (extents : List (ℕ × ℕ × ℕ)) (w : Option Writing) (a b : Option Content) → IsOutput free bs memory extents w → Changes (FailsAtRest extents free w) a b → Changes (StopsAtRest extents free (length bs)) a b
+told_stop free bs memory extents w a b out fails =
     changes_as (FailsAtRest extents free w) (StopsAtRest extents free (length bs)) a b
-    (λ x y. ⊎_elim (λ (same : y ≡ x). inl same) (λ (p : PutsAtRest extents free w x y). inr (keeps_at_rest free bs frames table extents w x y out p))) fails
+    (λ x y. ⊎_elim (λ (same : y ≡ x). inl same) (λ (p : PutsAtRest extents free w x y). inr (keeps_at_rest free bs memory extents w x y out p))) fails
 
 -- no page is full with these bytes
 pub unwritten : (extents : List (ℕ × ℕ × ℕ)) (free : List ℕ) (n m : ℕ) (x : Content) → (4096 ≤ m → 4096 ≤ n) → WritesAtRest extents free n m x x

@@ -3,7 +3,7 @@ use Rattle.std.proofs.Common.{◌≡◌, ℕ, ◌+◌, ◌-◌, ◌/◌, ◌%◌
 use Rattle.std.proofs.Math.Seq.{take-add}
 use Rattle.std.proofs.lemmas.List.{take-append-le, take-append-drop, length-take-le, get_or-take, get_or_append_left, get_or-append_right, take_all}
 use Rattle.std.proofs.lemmas.Bool.{cases_lt, cond-false, ne_eqb, or_from}
-use Rattle.swap_slots.specs.declared.table.SlotTable.{SlotTable}
+use Rattle.stream_in.specs.declared.slots.SlotMemory.{SlotMemory}
 use Rattle.definitions.proofs.PageBytes.{number_at-same, bytes_at-same}
 use Rattle.plain_machine.specs.Image.{maps_of}
 use Rattle.plain_machine.specs.Image.{page_of_write}
@@ -47,11 +47,11 @@ pub page_closed : (bs part page : List ℕ) → (length bs % 4096) + length part
 page_closed bs part page full i lt = absurd (omega (arith, length-append bs part))
 
 -- the output stays, where the page isn't full
-pub output_open : (free bs part : List ℕ) (frames : List (List ℕ)) (table : SlotTable) (extents : List (ℕ × ℕ × ℕ)) (w : Option Writing) → (length bs % 4096) + length part < 4096 → IsOutput free bs frames table extents w → IsOutput free (bs ++ part) frames table extents w
-output_open free bs part frames table extents None few out =
+pub output_open : (free bs part : List ℕ) (memory : SlotMemory) (extents : List (ℕ × ℕ × ℕ)) (w : Option Writing) → (length bs % 4096) + length part < 4096 → IsOutput free bs memory extents w → IsOutput free (bs ++ part) memory extents w
+output_open free bs part memory extents None few out =
     let early = out.early in
     record { early = omega (arith, length-append bs part); is_free = out.is_free }
-output_open free bs part frames table extents (Some w) few out =
+output_open free bs part memory extents (Some w) few out =
     let late = out.late in
     let size = length-append bs part in
     let pages = all_pages-append bs part (omega arith) in
@@ -101,9 +101,9 @@ pub some_written : (pages k : ℕ) → k < pages → writes_after pages k ≡ k 
 some_written pages k lt = cond-false (eqb k pages) (pages + maps_of pages) (k + k / 511) (ne_eqb k pages (λ e. omega arith))
 
 -- The full page can be written.
-pub can_put : (free bs part page : List ℕ) (frames : List (List ℕ)) (table : SlotTable) (extents : List (ℕ × ℕ × ℕ)) (blocks : ℕ) (w : Option Writing) → length free < 2 ^ 32 → blocks < 2 ^ 32 → BlocksBelow extents free (length free) blocks →
-    IsFull bs part page → IsOutput free bs frames table extents w → CanPut free frames table extents blocks page w
-can_put free bs part page frames table extents blocks None few count on_disk full out =
+pub can_put : (free bs part page : List ℕ) (memory : SlotMemory) (extents : List (ℕ × ℕ × ℕ)) (blocks : ℕ) (w : Option Writing) → length free < 2 ^ 32 → blocks < 2 ^ 32 → BlocksBelow extents free (length free) blocks →
+    IsFull bs part page → IsOutput free bs memory extents w → CanPut free memory extents blocks page w
+can_put free bs part page memory extents blocks None few count on_disk full out =
     let info = first_info bs part page full out.early in
     let sound = sound_full bs part page full in
     let counts = counts_none (image_pages (bs ++ part)) (all_pages (bs ++ part)) sound.counts in
@@ -114,7 +114,7 @@ can_put free bs part page frames table extents blocks None few count on_disk ful
       on_disk = on_disk;
       named = λ place lt. let below = on_disk place lt in omega arith;
     }
-can_put free bs part page frames table extents blocks (Some w) few count on_disk full out =
+can_put free bs part page memory extents blocks (Some w) few count on_disk full out =
     let sound = sound_full bs part page full in
     let size = full.size in
     let some = full.some in
@@ -142,9 +142,9 @@ can_put free bs part page frames table extents blocks (Some w) few count on_disk
 unfinished : (pages k : ℕ) → k < pages → writes_after pages k < pages + maps_of pages
 unfinished pages k lt = let e = some_written pages k lt in omega arith
 
-pub has_output : (free bs part page : List ℕ) (old frames : List (List ℕ)) (table : SlotTable) (extents : List (ℕ × ℕ × ℕ)) (w : Option Writing) (new : Writing) → IsFull bs part page → IsOutput free bs old table extents w →
-    HasPut free frames table extents page w new → Suffice free page w → IsBegun free (bs ++ part) frames table extents new
-has_output free bs part page old frames table extents None new full out put enough =
+pub has_output : (free bs part page : List ℕ) (old memory : SlotMemory) (extents : List (ℕ × ℕ × ℕ)) (w : Option Writing) (new : Writing) → IsFull bs part page → IsOutput free bs old extents w →
+    HasPut free memory extents page w new → Suffice free page w → IsBegun free (bs ++ part) memory extents new
+has_output free bs part page old memory extents None new full out put enough =
     let info = first_info bs part page full out.early in
     let early = out.early in
     let size = full.size in
@@ -163,7 +163,7 @@ has_output free bs part page old frames table extents None new full out put enou
       extents_are = put.extents_are;
       first = put.first;
     }
-has_output free bs part page old frames table extents (Some w) new full out put enough =
+has_output free bs part page old memory extents (Some w) new full out put enough =
     let sound = sound_full bs part page full in
     let late = out.late in
     let size = full.size in
@@ -189,14 +189,14 @@ has_output free bs part page old frames table extents (Some w) new full out put 
       first = put.first ∙ out.first;
     }
 
-pub output_full : (free bs part page : List ℕ) (old frames : List (List ℕ)) (table : SlotTable) (extents : List (ℕ × ℕ × ℕ)) (w new : Option Writing) → IsFull bs part page → IsOutput free bs old table extents w →
-    IsSomeAnd new (λ next. HasPut free frames table extents page w next) → Suffice free page w → IsOutput free (bs ++ part) frames table extents new
-output_full free bs part page old frames table extents w None full out put enough = absurd put
-output_full free bs part page old frames table extents w (Some next) full out put enough = has_output free bs part page old frames table extents w next full out put enough
+pub output_full : (free bs part page : List ℕ) (old memory : SlotMemory) (extents : List (ℕ × ℕ × ℕ)) (w new : Option Writing) → IsFull bs part page → IsOutput free bs old extents w →
+    IsSomeAnd new (λ next. HasPut free memory extents page w next) → Suffice free page w → IsOutput free (bs ++ part) memory extents new
+output_full free bs part page old memory extents w None full out put enough = absurd put
+output_full free bs part page old memory extents w (Some next) full out put enough = has_output free bs part page old memory extents w next full out put enough
 
 -- Too few slots are free for the image.
-pub too_few : (free bs part page : List ℕ) (frames : List (List ℕ)) (table : SlotTable) (extents : List (ℕ × ℕ × ℕ)) (w : Option Writing) (told need : ℕ) → IsFull bs part page → IsOutput free bs frames table extents w → HasTooFew free page w told need → HasTooFewFor free (bs ++ part) told need
-too_few free bs part page frames table extents None told need full out few =
+pub too_few : (free bs part page : List ℕ) (memory : SlotMemory) (extents : List (ℕ × ℕ × ℕ)) (w : Option Writing) (told need : ℕ) → IsFull bs part page → IsOutput free bs memory extents w → HasTooFew free page w told need → HasTooFewFor free (bs ++ part) told need
+too_few free bs part page memory extents None told need full out few =
     let info = first_info bs part page full out.early in
     let early = out.early in
     let size = full.size in
@@ -208,7 +208,7 @@ too_few free bs part page frames table extents None told need full out few =
       told_need = few.told_need ∙ ap (λ n. n + 1026) info.page_count;
       fewer = few.fewer;
     }
-too_few free bs part page frames table extents (Some w) told need full out few = let none = few.begins in cc
+too_few free bs part page memory extents (Some w) told need full out few = let none = few.begins in cc
 
 -- the page is full with these bytes
 pub full_page : (bs part page x post made : List ℕ) (begun : ℕ) → begun ≡ length bs % 4096 → begun + length part ≡ 4096 → begun ≤ length page → x ≡ part → HasPage bs page → made ≡ take begun page ++ (x ++ post) → length made ≡ 4096 → 0 < length part → first_fault (bs ++ part) ≡ None → IsFull bs part made
@@ -252,13 +252,13 @@ pages_more size at end le = omega arith
 -- Which slots suffice.
 
 -- the bytes that a session has taken and those of one page after them, in which there is a fault
-pub part_suffice : (free bs part : List ℕ) (fault : StreamFault) (frames : List (List ℕ)) (table : SlotTable) (extents : List (ℕ × ℕ × ℕ)) (w : Option Writing) → IsOutput free bs frames table extents w →
+pub part_suffice : (free bs part : List ℕ) (fault : StreamFault) (memory : SlotMemory) (extents : List (ℕ × ℕ × ℕ)) (w : Option Writing) → IsOutput free bs memory extents w →
     length bs % 4096 + length part ≤ 4096 → first_fault (bs ++ part) ≡ Some fault → SufficeFor free (bs ++ part)
-part_suffice free bs part fault frames table extents None output within found whole sound =
+part_suffice free bs part fault memory extents None output within found whole sound =
     let early = output.early in
     let all : take 4096 (bs ++ part) ≡ bs ++ part = take_all 4096 (bs ++ part) (omega (arith, early, within, length-append bs part)) in
     absurd (none-some fault (sym (sym (ap first_fault all) ∙ sound) ∙ found))
-part_suffice free bs part fault frames table extents (Some w) output within found whole sound =
+part_suffice free bs part fault memory extents (Some w) output within found whole sound =
     let late = output.late in
     let room = output.room in
     subst (λ (n : ℕ). n + 1026 ≤ length free) (sym (all_pages-append bs part (omega (arith, late)))) room

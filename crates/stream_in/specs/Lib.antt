@@ -3,6 +3,7 @@ pub mod Marking
 pub mod Stops
 pub mod Putting
 pub mod Session
+pub mod Slots
 pub mod Outside
 pub mod Holding
 pub mod Moments

@@ -1,8 +1,6 @@
 -- A session, and the bytes that it has taken.
 use Rattle.std.specs.Prelude.{◌≡◌, ◌⊎◌, ◌≤◌, ◌<◌, ℕ, ◌+◌, ◌-◌, ◌*◌, ◌/◌, ◌%◌, ◌^◌, List, [], ◌∷◌, length, slice_index}
 use Rattle.std.specs.Prelude.{Option, Some, None}
-use Rattle.swap_slots.specs.Table.{LiesIn, Matches, free_in}
-use Rattle.swap_slots.specs.declared.table.SlotTable.{SlotTable}
 use Rattle.plain_machine.specs.Image.{laid_block}
 use Rattle.image_write.specs.Writing.{Writing, IsWriting, BlocksBelow}
 use Rattle.stream_in.specs.Grammar.{all_pages}
@@ -11,7 +9,9 @@ use Rattle.image_format.specs.declared.signature.area.Area.{Area}
 use Rattle.stream_in.specs.Area.{AreUsable}
 use Rattle.stream_in.specs.Holding.{first_blocks}
 use Rattle.stream_in.specs.Holding.{AreOfMap, writes_after}
+use Rattle.stream_in.specs.Slots.{free_of}
 use Rattle.stream_in.specs.declared.session.StreamIn.{StreamIn}
+use Rattle.stream_in.specs.declared.slots.SlotMemory.{SlotMemory}
 use Rattle.stream_in.specs.declared.stop.InStop.{InStop}
 use Rattle.definitions.specs.declared.counts.TheConstants.{SPARE_SLOTS}
 
@@ -21,38 +21,35 @@ HasPage bs page =
     (i : ℕ) → i < length bs % 4096 → slice_index page i ≡ slice_index bs (length bs - length bs % 4096 + i)
 
 -- The info page isn't whole yet, and these slots are free.
-pub record IsUnbegun (free bs : List ℕ) (frames : List (List ℕ)) (table : SlotTable) : Type 0 where
+pub record IsUnbegun (free bs : List ℕ) (memory : SlotMemory) : Type 0 where
   pub early : length bs < 4096
-  pub is_free : free_in frames table ≡ free
+  pub is_free : free_of memory ≡ free
 
 -- The whole pages are written to these slots, which suffice, with the maps that they fill.
-pub record IsBegun (free bs : List ℕ) (frames : List (List ℕ)) (table : SlotTable) (extents : List (ℕ × ℕ
-    × ℕ)) (w : Writing) : Type 0 where
+pub record IsBegun (free bs : List ℕ) (memory : SlotMemory) (extents : List (ℕ × ℕ × ℕ)) (w : Writing) : Type 0 where
   pub late : 4096 ≤ length bs
   pub room : all_pages bs + SPARE_SLOTS ≤ length free
   pub pages : w.info.pages ≡ all_pages bs
   pub written : w.written ≡ writes_after (all_pages bs) (length bs / 4096)
-  pub going : length bs < 4096 * all_pages bs → IsWriting free frames w
-  pub table_is : w.table ≡ table
+  pub going : length bs < 4096 * all_pages bs → IsWriting free memory.frames w
+  pub table_is : w.table ≡ memory.table
   pub extents_are : w.extents ≡ extents
   pub first : w.first ≡ laid_block extents free 0
 
-abbrev pub IsOutput : List ℕ → List ℕ → List (List ℕ) → SlotTable → List (ℕ × ℕ × ℕ) → Option Writing → Type 0
-IsOutput free bs frames table extents None = IsUnbegun free bs frames table
-IsOutput free bs frames table extents (Some w) = IsBegun free bs frames table extents w
+abbrev pub IsOutput : List ℕ → List ℕ → SlotMemory → List (ℕ × ℕ × ℕ) → Option Writing → Type 0
+IsOutput free bs memory extents None = IsUnbegun free bs memory
+IsOutput free bs memory extents (Some w) = IsBegun free bs memory extents w
 
 -- A session that isn't stopped has taken exactly these bytes, in which no fault was found. These slots were free when
 -- it was opened.
 pub record IsFed (free bs : List ℕ) (s : StreamIn) : Type 0 where
   pub taken : HasTaken bs s.checker
   pub going : s.stop ≡ None
-  pub table_in : LiesIn s.frames s.table
-  pub matched : Matches s.frames s.table s.runs
   pub page_is : HasPage bs s.page
   pub few : length free < 2 ^ 32
   pub count : s.blocks < 2 ^ 32
   pub on_disk : BlocksBelow s.map free (length free) s.blocks
-  pub output : IsOutput free bs s.frames s.table s.map s.writer
+  pub output : IsOutput free bs s.memory s.map s.writer
 
 abbrev pub IsGoing : StreamIn → Type 0
 IsGoing s = (free : List ℕ) × (bs : List ℕ) × IsFed free bs s

@@ -1,9 +1,8 @@
 ghost use Rattle.std.specs.Prelude.{◌≡◌, ◌≤◌, ◌<◌, ℕ, ◌+◌, ◌-◌, ◌*◌, ◌/◌, ◌%◌, ◌++◌, ◌∷◌, List, [], Some};
-ghost use Rattle.std.specs.Prelude.{None, Err, IsSome, IsTrue, IsErrAnd, IfOk, IfErr, IfSome, length, replicate};
+ghost use Rattle.std.specs.Prelude.{None, Err, IsSome, IsTrue, IsErrAnd, IfOk, IfErr, IfSome, length};
 ghost use Rattle.definitions.specs.Disk.{as_it_reads};
 ghost use Rattle.image_format.specs.AreaKind.{area_kind};
-ghost use Rattle.definitions.specs.Bytes.{zero_page};
-ghost use Rattle.stream_in.specs.Area.{first_block, open_fault, HasBounds};
+ghost use Rattle.stream_in.specs.Area.{first_block, open_fault};
 ghost use Rattle.image_format.specs.declared.signature.area.Area.{Area as AreaValue};
 ghost use Rattle.image_format.specs.declared.signature.area.AreaKind.TheVariants as kind;
 ghost use Rattle.definitions.specs.FileMaps.{IsFileMap};
@@ -12,32 +11,26 @@ ghost use Rattle.stream_in.specs.Moments.{ElapsesAlike, ElapsesOutside};
 ghost use Rattle.stream_in.specs.Holding.{IsReadyFor};
 ghost use Rattle.image_write.specs.Writing.{Writing};
 
-use crate::area::{MOST_SLOTS, usable};
+use crate::area::usable;
 use crate::header::{mark_image, read_header};
 use crate::putting::put_full;
-use crate::slots::{SwapSlots, set_bad};
+use crate::slots::SlotMemory;
 use crate::{Checker, InStop};
-use frame_arena::Frames;
 use image_format::{Area, AreaKind};
 use image_write::Writer;
 use page_core::Page;
 use sector_disk::Disk;
 use std::alloc::Global;
-use swap_slots::{FileMap, FreeRuns, SlotTable};
+use swap_slots::FileMap;
 
 /// The bytes of a page.
 const PAGE: usize = 4096;
-
-/// The number of page frames of the slot table.
-const TABLE_FRAMES: u32 = 128;
 
 /// An import of an image: a stream of bytes whose pages are written into the swap area at the disk's first blocks as
 /// soon as they are full. It takes all its memory when it is opened, and finds free slots in a slot table of its own.
 #[derive(Drop)]
 pub struct StreamIn {
-    frames: Frames,
-    runs: FreeRuns,
-    table: SlotTable,
+    memory: SlotMemory,
     map: FileMap,
     /// How many blocks the disk had when it was opened.
     blocks: u32,
@@ -51,6 +44,7 @@ pub struct StreamIn {
 impl StreamIn {
     ghost use Rattle.stream_in.specs.declared.checking.fault.StreamFault.{StreamFault};
     ghost use Rattle.stream_in.specs.Stops.{IsDiskStop, IsOfOpen, IsOfFeed, IsOfFinish, IfNoSwap};
+    ghost use Rattle.stream_in.specs.Slots.{HasSlotsOf};
     ghost use Rattle.stream_in.specs.Session.{IsOpened, IsFed, IsGoing, IsSession, TakesInto};
     ghost use Rattle.stream_in.specs.Pieces.{AnswersPiece, WritesPiece, FillsArea, LeavesMoments, StaysOn};
     ghost use Rattle.stream_in.specs.Pieces.{AtMostByPages};
@@ -82,34 +76,24 @@ impl StreamIn {
         ensures time { IsTrue (D.tells_moments disk.old) →
             ElapsesAlike (D.moment disk.old) (D.moment disk.new) (D.left_since disk.old) (D.left_since disk.new) }
     {
-        let frames = Frames::create(alloc, TABLE_FRAMES)?;
-        let runs = FreeRuns::create(alloc, MOST_SLOTS)?;
+        let memory = SlotMemory::create(alloc)?;
         let blocks = disk.blocks();
         let header = read_header(disk)?;
         match usable(AreaKind::read(&header), blocks) {
-            Ok(area) => Ok(StreamIn::over(frames, runs, blocks, &area)),
+            Ok(area) => Ok(StreamIn::over(memory.with_area(&area), blocks, &area)),
             Err(why) => Err(InStop::NoSwap(why)),
         }
     }
 
-    /// Makes a session over this area, on a disk of `blocks` blocks.
-    fn over(mut frames: Frames, mut runs: FreeRuns, blocks: u32, area: &Area) -> StreamIn
-        requires frames { frames ≡ replicate 128 zero_page }
-        requires runs { runs.room ≡ 131072 }
+    /// Makes a session over this area, whose slots the memory has, on a disk of `blocks` blocks.
+    fn over(memory: SlotMemory, blocks: u32, area: &Area) -> StreamIn
+        requires memory { HasSlotsOf area.now memory }
         requires last { area.now.last < blocks }
-        requires room { area.now.last < 131072 }
-        requires bounds { HasBounds area.now }
         ensures { IsOpened area.now blocks result }
     {
-        let slots = area.last + 1;
-        let table = SlotTable { first: 0, slots };
-        set_bad(&mut frames, &table, area);
-        runs.rebuild(&frames, &table);
         StreamIn {
-            frames,
-            runs,
-            table,
-            map: whole_map(slots),
+            memory,
+            map: whole_map(area.last + 1),
             blocks,
             checker: Checker::begin(),
             writer: None,
@@ -191,18 +175,7 @@ impl StreamIn {
             return Ok(());
         }
         let page = Page::from_bytes(&self.page);
-        let slots = SwapSlots {
-            table: &self.table,
-            map: &self.map,
-        };
-        put_full(
-            &mut self.writer,
-            &mut self.frames,
-            &mut self.runs,
-            &slots,
-            disk,
-            &page,
-        )?;
+        put_full(&mut self.writer, &mut self.memory, &self.map, disk, &page)?;
         Ok(())
     }
 
@@ -262,7 +235,6 @@ fn end_of_page(at: usize, begun: usize, len: usize) -> usize
 /// Returns the file map in which each of `slots` slots lies on the block of its number.
 fn whole_map(slots: u32) -> FileMap
     requires some { 1 ≤ slots }
-    requires few { slots ≤ 131072 }
     ensures map { result ≡ (0, slots, 0) ∷ [] }
     ensures file_map { IsFileMap ((0, slots, 0) ∷ []) slots }
 {

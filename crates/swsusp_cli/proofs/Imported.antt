@@ -14,9 +14,7 @@ use Rattle.plain_machine.specs.Image.{maps_of}
 use Rattle.plain_machine.specs.Image.{laid_block, laid_write, page_of_write}
 use Rattle.plain_machine.specs.UsableArea.{kind_fault}
 use Rattle.plain_machine.specs.declared.no_swap.NoSwap.{NoSwap}
-use Rattle.image_write.specs.Writing.{Writing}
 use Rattle.image_write.proofs.Done.{place_of, place_below, block_of_write}
-use Rattle.swap_slots.specs.declared.table.SlotTable.{SlotTable}
 use Rattle.stream_in.specs.Grammar.{image_pages, all_pages, first_fault, short_fault, is_whole}
 use Rattle.stream_in.specs.declared.checking.fault.StreamFault.{StreamFault}
 use Rattle.stream_in.proofs.Steps.{sound_from}
@@ -26,12 +24,13 @@ use Rattle.stream_in.specs.Marking.{LeavesAt}
 use Rattle.stream_in.specs.Marked.{Marks}
 use Rattle.stream_in.specs.Outside.{IsBlockOf, KeepsOutside, StopsAtRest}
 use Rattle.stream_in.proofs.Rests.{stops_still}
-use Rattle.stream_in.specs.Session.{IsOpened, IsOutput}
+use Rattle.stream_in.specs.Session.{IsOpened}
 use Rattle.stream_in.specs.Stops.{IsDiskStop, IsOfOpen, IsOfFinish, IfNoSwap}
 use Rattle.stream_in.specs.Holding.{page_at, writes_after}
 use Rattle.stream_in.specs.declared.session.StreamIn.{StreamIn}
 use Rattle.stream_in.specs.declared.stop.InStop.{InStop}
 use Rattle.stream_in.specs.declared.stop.InStop.TheVariants as stop
+use Rattle.stream_in.proofs.ComingIn.{has_room}
 use Rattle.stream_in.proofs.Contents.{changes_then, changes_as}
 use Rattle.stream_in.proofs.Undoing.{first_block-some}
 use Rattle.swsusp_cli.specs.Imports.{IsCalledAtMost}
@@ -105,11 +104,6 @@ whole_from bs sound whole =
     let few = is.are.few in
     let all = is.are.all in
     record { info = info; size = omega arith; few = omega arith }
-
--- once the info page is whole, enough slots are free
-pub enough : (free bs : List ℕ) (frames : List (List ℕ)) (table : SlotTable) (extents : List (ℕ × ℕ × ℕ)) (w : Option Writing) → IsOutput free bs frames table extents w → 4096 ≤ length bs → all_pages bs + 1026 ≤ length free
-enough free bs frames table extents None out late = let early = out.early in absurd (omega arith)
-enough free bs frames table extents (Some w) out late = out.room
 
 -- The mark, after all that was written.
 
@@ -274,7 +268,7 @@ ends_imported area free bs s s' r n left left' d e f g opened fed over is pages 
     let sound = fed.fed.taken.read.sound in
     let none : short_fault bs ≡ None = not_short bs r n (short_fault bs) is short refl in
     let whole = whole_from bs sound none in
-    let room = enough free bs s'.frames s'.table s'.map s'.writer fed.fed.output whole.info in
+    let room = has_room free bs s'.memory s'.map s'.writer fed.fed.output whole.info in
     let map_is : s'.map ≡ whole_map area = fed.map ∙ opened.map_is in
     let below = fed.fed.on_disk 0 (omega arith) in
     let same : s'.blocks ≡ d.blocks = fed.blocks ∙ opened.blocks_are in
@@ -353,7 +347,7 @@ ends_unfinished area free bs s s' r why left left' d e f g opened fed over is of
   some : (why : InStop) → r ≡ Err why → ((fault : StreamFault) → why ≡ stop.Stream fault → ⊥) → 0 < d.blocks
   some why is other =
       let info = whole_from bs sound (whole why is other) in
-      let room = enough free bs s'.frames s'.table s'.map s'.writer fed.fed.output info.info in
+      let room = has_room free bs s'.memory s'.map s'.writer fed.fed.output info.info in
       let below = fed.fed.on_disk 0 (omega arith) in
       let same : s'.blocks ≡ d.blocks = fed.blocks ∙ opened.blocks_are in
       omega arith
@@ -397,7 +391,7 @@ ends_unfinished area free bs s s' r why left left' d e f g opened fed over is of
           area_is = opened.area_is;
           bytes = bytes;
           says = inr (sound, (short fault).0 is, over);
-          suffice = λ late _. enough free bs s'.frames s'.table s'.map s'.writer fed.fed.output late;
+          suffice = λ late _. has_room free bs s'.memory s'.map s'.writer fed.fed.output late;
           content = subst (λ (v : DiskView). Changes (LeavesUnusable area) d.content v.content) (sym same) content;
           called = subst (IsCalledAtMost (1 + 3 * (length bs / 4096)) d) (sym same) so_far;
         },

@@ -13,7 +13,7 @@ returns-then-not-map_follows-clause-put g c = λ free h ok.
     let e1 = c.put-step.ensures in
     let p1 : IsPut free c.put-step.new.frames c.args.writer.now c.put-step.new.self c.put-step.result =
     record { answer = e1.answer; image = e1.writer.image; made = e1.writer.made; writing = e1.writer.writing free h } in
-    put_one free c.args.frames.now c.put-step.new.frames c.args.writer.now c.put-step.new.self c.put-step.result h c.requires.page p1 ok
+    put_one free c.args.memory.now.frames _ c.args.writer.now c.put-step.new.self c.put-step.result c.requires.table h c.requires.page p1 ok
     (sym c.map_follows.ensures ∙ c.if-not-map_follows.true)
 
 pub returns-then-not-map_follows-2-clause-put : goal.returns-then-not-map_follows-2-clause-put
@@ -26,8 +26,8 @@ returns-then-not-map_follows-2-clause-put g c = λ free h ok.
     let one = followed free c.put-step.new.frames c.args.writer.now c.put-step.new.self c.put-step.result p1 map1 in
     let p2 : IsPut free c.put-step-2.new.frames c.put-step.new.self c.put-step-2.new.self c.put-step-2.result =
     record { answer = e2.answer; image = e2.writer.image; made = e2.writer.made; writing = e2.writer.writing free one.writing } in
-    put_two free c.args.frames.now c.put-step.new.frames c.put-step-2.new.frames c.args.writer.now c.put-step.new.self c.put-step-2.new.self c.put-step.result c.put-step-2.result
-    h c.requires.page p1 map1 p2 ok (sym c.map_follows-2.ensures ∙ c.if-not-map_follows-2.true)
+    put_two free c.args.memory.now.frames c.put-step.new.frames _ c.args.writer.now c.put-step.new.self c.put-step-2.new.self c.put-step.result c.put-step-2.result
+    c.requires.table h c.requires.page p1 map1 p2 ok (sym c.map_follows-2.ensures ∙ c.if-not-map_follows-2.true)
 
 pub put-requires-clause-writing : goal.put-requires-clause-writing
 put-requires-clause-writing g c =
@@ -57,8 +57,8 @@ returns-clause-put g c = λ free h ok.
     let two = followed free c.put-step-2.new.frames c.put-step.new.self c.put-step-2.new.self c.put-step-2.result p2 map2 in
     let p3 : IsPut free c.put.new.frames c.put-step-2.new.self c.put.new.self c.put.result =
     record { answer = e3.answer; image = e3.writer.image; made = e3.writer.made; writing = e3.writer.writing free two.writing } in
-    put_three free c.args.frames.now c.put-step.new.frames c.put-step-2.new.frames c.put.new.frames c.args.writer.now c.put-step.new.self c.put-step-2.new.self c.put.new.self
-    c.put-step.result c.put-step-2.result c.put.result h c.requires.page p1 map1 p2 map2 p3 ok
+    put_three free c.args.memory.now.frames c.put-step.new.frames c.put-step-2.new.frames _ c.args.writer.now c.put-step.new.self c.put-step-2.new.self c.put.new.self
+    c.put-step.result c.put-step-2.result c.put.result c.requires.table h c.requires.page p1 map1 p2 map2 p3 ok
 
 -- How often the disk is called for the first page.
 
@@ -73,7 +73,7 @@ returns-clause-first_call g c = λ first some. absurd (both_ways (is_map_next c.
 pub returns-then-not-map_follows-clause-outside : goal.returns-then-not-map_follows-clause-outside
 returns-then-not-map_follows-clause-outside g c = λ free h.
     let e1 = c.put-step.ensures in
-    put_keeps free c.args.frames.now c.args.writer.now c.args.page.now c.put-step.result (g.D.Disk.content c.args.disk.now) (g.D.Disk.content c.put-step.new.disk) h e1.answer (e1.page.written free h) (e1.page.failed free h)
+    put_keeps free c.args.memory.now.frames c.args.writer.now c.args.page.now c.put-step.result (g.D.Disk.content c.args.disk.now) (g.D.Disk.content c.put-step.new.disk) h e1.answer (e1.page.written free h) (e1.page.failed free h)
 
 pub returns-then-not-map_follows-2-clause-outside : goal.returns-then-not-map_follows-2-clause-outside
 returns-then-not-map_follows-2-clause-outside g c = λ free h.
@@ -86,7 +86,7 @@ returns-then-not-map_follows-2-clause-outside g c = λ free h.
     let p1 : IsPut free c.put-step.new.frames c.args.writer.now c.put-step.new.self c.put-step.result =
     record { answer = e1.answer; image = e1.writer.image; made = e1.writer.made; writing = e1.writer.writing free h } in
     let one = followed free c.put-step.new.frames c.args.writer.now c.put-step.new.self c.put-step.result p1 (sym c.map_follows.ensures ∙ c.if-not-map_follows.false) in
-    let k1 = put_keeps free c.args.frames.now c.args.writer.now c.args.page.now c.put-step.result a b h e1.answer (e1.page.written free h) (e1.page.failed free h) in
+    let k1 = put_keeps free c.args.memory.now.frames c.args.writer.now c.args.page.now c.put-step.result a b h e1.answer (e1.page.written free h) (e1.page.failed free h) in
     let k2 = put_keeps free c.put-step.new.frames c.put-step.new.self c.args.page.now c.put-step-2.result b d one.writing e2.answer (e2.page.written free one.writing) (e2.page.failed free one.writing) in
     told_then x free a b d k1 (told_same x c.put-step.new.self.extents free b d e1.writer.image.extents k2)
 
@@ -106,7 +106,7 @@ returns-clause-outside g c = λ free h.
     let p2 : IsPut free c.put-step-2.new.frames c.put-step.new.self c.put-step-2.new.self c.put-step-2.result =
     record { answer = e2.answer; image = e2.writer.image; made = e2.writer.made; writing = e2.writer.writing free one.writing } in
     let two = followed free c.put-step-2.new.frames c.put-step.new.self c.put-step-2.new.self c.put-step-2.result p2 (sym c.map_follows-2.ensures ∙ c.if-not-map_follows-2.false) in
-    let k1 = put_keeps free c.args.frames.now c.args.writer.now c.args.page.now c.put-step.result a b h e1.answer (e1.page.written free h) (e1.page.failed free h) in
+    let k1 = put_keeps free c.args.memory.now.frames c.args.writer.now c.args.page.now c.put-step.result a b h e1.answer (e1.page.written free h) (e1.page.failed free h) in
     let k2 = put_keeps free c.put-step.new.frames c.put-step.new.self c.args.page.now c.put-step-2.result b d one.writing e2.answer (e2.page.written free one.writing) (e2.page.failed free one.writing) in
     let k3 = put_keeps free c.put-step-2.new.frames c.put-step-2.new.self c.args.page.now c.put.result d f two.writing e3.answer (e3.page.written free two.writing) (e3.page.failed free two.writing) in
     told_then x free a b f k1 (told_then x free b d f (told_same x c.put-step.new.self.extents free b d e1.writer.image.extents k2)
@@ -121,7 +121,7 @@ returns-then-not-map_follows-clause-done g c = λ free pages h of below is ok.
     let a = g.D.Disk.content c.args.disk.now in
     let b = g.D.Disk.content c.put-step.new.disk in
     more_same w0.extents w0.extents free w0.info.pages w0.info.pages pages w0.written w0.written c.put-step.new.self.written (w0.written + 1) a b refl refl refl (sym (e1.writer.made ok))
-    (put_done free c.args.frames.now w0 c.args.page.now pages (g.D.Disk.block_count c.args.disk.now) a b h of c.as_bytes.ensures.page below (g.met.D.Disk.well_formed c.args.disk.now) (inr is) (e1.page.written free h ok))
+    (put_done free c.args.memory.now.frames w0 c.args.page.now pages (g.D.Disk.block_count c.args.disk.now) a b h of c.as_bytes.ensures.page below (g.met.D.Disk.well_formed c.args.disk.now) (inr is) (e1.page.written free h ok))
 
 pub returns-then-not-map_follows-2-clause-done : goal.returns-then-not-map_follows-2-clause-done
 returns-then-not-map_follows-2-clause-done g c = λ free pages h of below is ok.
@@ -136,7 +136,7 @@ returns-then-not-map_follows-2-clause-done g c = λ free pages h of below is ok.
     record { answer = e1.answer; image = e1.writer.image; made = e1.writer.made; writing = e1.writer.writing free h } in
     let map1 : is_map_next c.put-step.result ≡ true = sym c.map_follows.ensures ∙ c.if-not-map_follows.false in
     let one = followed free c.put-step.new.frames w0 w1 c.put-step.result p1 map1 in
-    let d1 = put_done free c.args.frames.now w0 c.args.page.now pages (g.D.Disk.block_count c.args.disk.now) a b h of c.as_bytes.ensures.page below (g.met.D.Disk.well_formed c.args.disk.now) (inr is)
+    let d1 = put_done free c.args.memory.now.frames w0 c.args.page.now pages (g.D.Disk.block_count c.args.disk.now) a b h of c.as_bytes.ensures.page below (g.met.D.Disk.well_formed c.args.disk.now) (inr is)
     (e1.page.written free h (not_fault c.put-step.result map1)) in
     let s1 = behind_put free w0 w1 (g.D.Disk.block_count c.args.disk.now) (g.D.Disk.block_count c.put-step.new.disk) one e1.called.blocks of below in
     let d2 = put_done free c.put-step.new.frames w1 c.args.page.now pages (g.D.Disk.block_count c.put-step.new.disk) b d one.writing s1.of c.as_bytes.ensures.page s1.below (g.met.D.Disk.well_formed c.put-step.new.disk) (inl s1.map) (e2.page.written free one.writing ok) in
@@ -164,7 +164,7 @@ returns-clause-done g c = λ free pages h of below is ok.
     record { answer = e2.answer; image = e2.writer.image; made = e2.writer.made; writing = e2.writer.writing free one.writing } in
     let map2 : is_map_next c.put-step-2.result ≡ true = sym c.map_follows-2.ensures ∙ c.if-not-map_follows-2.false in
     let two = followed free c.put-step-2.new.frames w1 w2 c.put-step-2.result p2 map2 in
-    let d1 = put_done free c.args.frames.now w0 c.args.page.now pages (g.D.Disk.block_count c.args.disk.now) a b h of c.as_bytes.ensures.page below (g.met.D.Disk.well_formed c.args.disk.now) (inr is)
+    let d1 = put_done free c.args.memory.now.frames w0 c.args.page.now pages (g.D.Disk.block_count c.args.disk.now) a b h of c.as_bytes.ensures.page below (g.met.D.Disk.well_formed c.args.disk.now) (inr is)
     (e1.page.written free h (not_fault c.put-step.result map1)) in
     let s1 = behind_put free w0 w1 (g.D.Disk.block_count c.args.disk.now) (g.D.Disk.block_count c.put-step.new.disk) one e1.called.blocks of below in
     let d2 = put_done free c.put-step.new.frames w1 c.args.page.now pages (g.D.Disk.block_count c.put-step.new.disk) b d one.writing s1.of c.as_bytes.ensures.page s1.below (g.met.D.Disk.well_formed c.put-step.new.disk) (inl s1.map)
@@ -196,7 +196,7 @@ returns-then-not-map_follows-clause-time g c = λ tells free h.
     let d = c.args.disk.now in
     let a = g.D.Disk.content d in
     let b = g.D.Disk.content c.put-step.new.disk in
-    let k1 = put_keeps free c.args.frames.now c.args.writer.now c.args.page.now c.put-step.result a b h e1.answer (e1.page.written free h) (e1.page.failed free h) in
+    let k1 = put_keeps free c.args.memory.now.frames c.args.writer.now c.args.page.now c.put-step.result a b h e1.answer (e1.page.written free h) (e1.page.failed free h) in
     outside_call c.args.writer.now.extents free (g.D.Disk.block_count d) (g.D.Disk.moment d) (g.D.Disk.moment c.put-step.new.disk) (g.D.Disk.left_since d) (g.D.Disk.left_since c.put-step.new.disk) a b
     (g.met.D.Disk.tells_content d tells) (g.met.D.Disk.well_formed d) (e1.called.time tells) k1 (λ t v le. g.met.D.Disk.counts_now d t v tells le)
 
@@ -214,7 +214,7 @@ returns-then-not-map_follows-2-clause-time g c = λ tells free h.
     let p1 : IsPut free c.put-step.new.frames c.args.writer.now c.put-step.new.self c.put-step.result =
     record { answer = e1.answer; image = e1.writer.image; made = e1.writer.made; writing = e1.writer.writing free h } in
     let one = followed free c.put-step.new.frames c.args.writer.now c.put-step.new.self c.put-step.result p1 (sym c.map_follows.ensures ∙ c.if-not-map_follows.false) in
-    let k1 = put_keeps free c.args.frames.now c.args.writer.now c.args.page.now c.put-step.result (content d0) (content d1) h e1.answer (e1.page.written free h) (e1.page.failed free h) in
+    let k1 = put_keeps free c.args.memory.now.frames c.args.writer.now c.args.page.now c.put-step.result (content d0) (content d1) h e1.answer (e1.page.written free h) (e1.page.failed free h) in
     let k2 = put_keeps free c.put-step.new.frames c.put-step.new.self c.args.page.now c.put-step-2.result (content d1) (content d2) one.writing e2.answer (e2.page.written free one.writing) (e2.page.failed free one.writing) in
     let tells1 = subst IsTrue (sym e1.called.telling) tells in
     let t1 = outside_call x free (g.D.Disk.block_count d0) (moment d0) (moment d1) (left d0) (left d1) (content d0) (content d1) (g.met.D.Disk.tells_content d0 tells) (g.met.D.Disk.well_formed d0) (e1.called.time tells) k1
@@ -242,7 +242,7 @@ returns-clause-time g c = λ tells free h.
     let p2 : IsPut free c.put-step-2.new.frames c.put-step.new.self c.put-step-2.new.self c.put-step-2.result =
     record { answer = e2.answer; image = e2.writer.image; made = e2.writer.made; writing = e2.writer.writing free one.writing } in
     let two = followed free c.put-step-2.new.frames c.put-step.new.self c.put-step-2.new.self c.put-step-2.result p2 (sym c.map_follows-2.ensures ∙ c.if-not-map_follows-2.false) in
-    let k1 = put_keeps free c.args.frames.now c.args.writer.now c.args.page.now c.put-step.result (content d0) (content d1) h e1.answer (e1.page.written free h) (e1.page.failed free h) in
+    let k1 = put_keeps free c.args.memory.now.frames c.args.writer.now c.args.page.now c.put-step.result (content d0) (content d1) h e1.answer (e1.page.written free h) (e1.page.failed free h) in
     let k2 = put_keeps free c.put-step.new.frames c.put-step.new.self c.args.page.now c.put-step-2.result (content d1) (content d2) one.writing e2.answer (e2.page.written free one.writing) (e2.page.failed free one.writing) in
     let k3 = put_keeps free c.put-step-2.new.frames c.put-step-2.new.self c.args.page.now c.put.result (content d2) (content d3) two.writing e3.answer (e3.page.written free two.writing) (e3.page.failed free two.writing) in
     let tells1 = subst IsTrue (sym e1.called.telling) tells in

@@ -36,7 +36,7 @@ returns-in-Ok-clause-marks g c = record {
       let s = c.args.self in
       let fed = into.fed in
       let whole : short_fault bs ≡ None = (c.in_ok-n.ensures.ok bs fed.taken).0 refl in
-      let first : c.first_of-first.result ≡ laid_block s.map free 0 = first_block_of free bs s.frames s.table s.map s.writer c.first_of-first.result fed.output whole c.first_of-first.ensures in
+      let first : c.first_of-first.result ≡ laid_block s.map free 0 = first_block_of free bs s.memory s.map s.writer c.first_of-first.result fed.output whole c.first_of-first.ensures in
       told_comes_in area free bs s (g.D.Disk.block_count c.args.disk.now) (g.D.Disk.content c.args.disk.now) (g.D.Disk.content c.mark_image.new.disk) into whole c.requires.blocks
       (g.met.D.Disk.well_formed c.args.disk.now) (subst (λ (n : ℕ). Changes (Marks n) (g.D.Disk.content c.args.disk.now) (g.D.Disk.content c.mark_image.new.disk)) first c.in-Ok.ensures.marked);
   whole = λ area free bs into.
@@ -45,7 +45,7 @@ returns-in-Ok-clause-marks g c = record {
       let d = c.args.disk.now in
       let e = c.mark_image.new.disk in
       let whole : short_fault bs ≡ None = (c.in_ok-n.ensures.ok bs fed.taken).0 refl in
-      let first : c.first_of-first.result ≡ laid_block s.map free 0 = first_block_of free bs s.frames s.table s.map s.writer c.first_of-first.result fed.output whole c.first_of-first.ensures in
+      let first : c.first_of-first.result ≡ laid_block s.map free 0 = first_block_of free bs s.memory s.map s.writer c.first_of-first.result fed.output whole c.first_of-first.ensures in
       told_leaves_whole area free bs s (g.D.Disk.block_count d) (g.D.Disk.content d) (g.D.Disk.content e) into whole c.requires.blocks (g.met.D.Disk.well_formed d)
       (subst (λ (n : ℕ). IfSome (g.D.Disk.content d) (λ held. IfSome (g.D.Disk.content e) (TriesMark n held))) first c.mark_image.ensures.tried);
 }
@@ -67,7 +67,7 @@ returns-in-Ok-clause-moments g c = λ tells. record {
       let d = c.args.disk.now in
       let e = c.mark_image.new.disk in
       let whole : short_fault bs ≡ None = (c.in_ok-n.ensures.ok bs fed.taken).0 refl in
-      let first : c.first_of-first.result ≡ laid_block s.map free 0 = first_block_of free bs s.frames s.table s.map s.writer c.first_of-first.result fed.output whole c.first_of-first.ensures in
+      let first : c.first_of-first.result ≡ laid_block s.map free 0 = first_block_of free bs s.memory s.map s.writer c.first_of-first.result fed.output whole c.first_of-first.ensures in
       subst (λ (n : ℕ). IfSome (g.D.Disk.content d) (λ held. ElapsesOverMark n (g.D.Disk.moment d) (g.D.Disk.moment e) (g.D.Disk.left_since d) (g.D.Disk.left_since e) held)) first (c.mark_image.ensures.time tells);
   cut = λ area free bs into.
       let s = c.args.self in
@@ -75,7 +75,7 @@ returns-in-Ok-clause-moments g c = λ tells. record {
       let d = c.args.disk.now in
       let e = c.mark_image.new.disk in
       let whole : short_fault bs ≡ None = (c.in_ok-n.ensures.ok bs fed.taken).0 refl in
-      let first : c.first_of-first.result ≡ laid_block s.map free 0 = first_block_of free bs s.frames s.table s.map s.writer c.first_of-first.result fed.output whole c.first_of-first.ensures in
+      let first : c.first_of-first.result ≡ laid_block s.map free 0 = first_block_of free bs s.memory s.map s.writer c.first_of-first.result fed.output whole c.first_of-first.ensures in
       told_whole area free bs s (g.D.Disk.block_count d) (g.D.Disk.moment d) (g.D.Disk.moment e) (g.D.Disk.left_since d) (g.D.Disk.left_since e) (g.D.Disk.content d) into whole c.requires.blocks (g.met.D.Disk.well_formed d)
       (subst (λ (n : ℕ). IfSome (g.D.Disk.content d) (λ held. ElapsesOverMark n (g.D.Disk.moment d) (g.D.Disk.moment e) (g.D.Disk.left_since d) (g.D.Disk.left_since e) held)) first (c.mark_image.ensures.time tells));
 }
@@ -87,7 +87,7 @@ returns-clause-moments g c = λ tells. record {
       let d = c.args.disk.now in
       let e = c.mark_image.new.disk in
       let whole : short_fault bs ≡ None = (c.in_ok-n.ensures.ok bs fed.taken).0 refl in
-      let first : c.first_of-first.result ≡ laid_block s.map free 0 = first_block_of free bs s.frames s.table s.map s.writer c.first_of-first.result fed.output whole c.first_of-first.ensures in
+      let first : c.first_of-first.result ≡ laid_block s.map free 0 = first_block_of free bs s.memory s.map s.writer c.first_of-first.result fed.output whole c.first_of-first.ensures in
       subst (λ (n : ℕ). IfSome (g.D.Disk.content d) (λ held. ElapsesOverMark n (g.D.Disk.moment d) (g.D.Disk.moment e) (g.D.Disk.left_since d) (g.D.Disk.left_since e) held)) first (c.mark_image.ensures.time tells);
   cut = λ area free bs into.
       let s = c.args.self in
@@ -95,7 +95,7 @@ returns-clause-moments g c = λ tells. record {
       let d = c.args.disk.now in
       let e = c.mark_image.new.disk in
       let whole : short_fault bs ≡ None = (c.in_ok-n.ensures.ok bs fed.taken).0 refl in
-      let first : c.first_of-first.result ≡ laid_block s.map free 0 = first_block_of free bs s.frames s.table s.map s.writer c.first_of-first.result fed.output whole c.first_of-first.ensures in
+      let first : c.first_of-first.result ≡ laid_block s.map free 0 = first_block_of free bs s.memory s.map s.writer c.first_of-first.result fed.output whole c.first_of-first.ensures in
       told_whole area free bs s (g.D.Disk.block_count d) (g.D.Disk.moment d) (g.D.Disk.moment e) (g.D.Disk.left_since d) (g.D.Disk.left_since e) (g.D.Disk.content d) into whole c.requires.blocks (g.met.D.Disk.well_formed d)
       (subst (λ (n : ℕ). IfSome (g.D.Disk.content d) (λ held. ElapsesOverMark n (g.D.Disk.moment d) (g.D.Disk.moment e) (g.D.Disk.left_since d) (g.D.Disk.left_since e) held)) first (c.mark_image.ensures.time tells));
 }
@@ -119,7 +119,7 @@ returns-clause-marks g c = record {
       let d = c.args.disk.now in
       let e = c.mark_image.new.disk in
       let whole : short_fault bs ≡ None = (c.in_ok-n.ensures.ok bs fed.taken).0 refl in
-      let first : c.first_of-first.result ≡ laid_block s.map free 0 = first_block_of free bs s.frames s.table s.map s.writer c.first_of-first.result fed.output whole c.first_of-first.ensures in
+      let first : c.first_of-first.result ≡ laid_block s.map free 0 = first_block_of free bs s.memory s.map s.writer c.first_of-first.result fed.output whole c.first_of-first.ensures in
       told_leaves_whole area free bs s (g.D.Disk.block_count d) (g.D.Disk.content d) (g.D.Disk.content e) into whole c.requires.blocks (g.met.D.Disk.well_formed d)
       (subst (λ (n : ℕ). IfSome (g.D.Disk.content d) (λ held. IfSome (g.D.Disk.content e) (TriesMark n held))) first c.mark_image.ensures.tried);
 }

@@ -1,6 +1,5 @@
-use Rattle.std.proofs.Common.{◌≡◌, ◌<◌, ◌++◌, refl, ℕ, ◌+◌, ◌%◌, ◌≤◌, List, length, Err, sym, ap, subst, ◌∙◌, arith, rules, length-append}
+use Rattle.std.proofs.Common.{◌≡◌, ◌<◌, ◌++◌, refl, ℕ, ◌+◌, ◌%◌, List, length, Err, sym, ap, subst, ◌∙◌, arith, rules, length-append}
 use Rattle.std.proofs.lemmas.Result.{err_from_is_err_and}
-use Rattle.definitions.specs.Tables.{table_frame_count}
 use Rattle.stream_in.specs.declared.stop.InStop.TheVariants as stop
 use Rattle.stream_in.specs.declared.session.StreamIn.{StreamIn}
 use Rattle.stream_in.specs.Putting.{CanPut}
@@ -32,7 +31,7 @@ returns-in_err-take-clause-answer g c = record {
       let told : stop.Stream c.in_err-take.field-0.0 ≡ stop.Stream fault = err_same c.from_residual.result _ _ (p.1 ∙ ap Err p.2) is in
       let same : c.in_err-take.field-0.0 ≡ fault = cc in
       let begun : c.args.begun ≡ length bs % 4096 = began c.args.self.now c.args.begun c.requires.session free bs fed in
-      part_suffice free bs c.args.part.now fault c.args.self.now.frames c.args.self.now.table c.args.self.now.map c.args.self.now.writer fed.output (omega arith)
+      part_suffice free bs c.args.part.now fault c.args.self.now.memory c.args.self.now.map c.args.self.now.writer fed.output (omega arith)
       ((c.take.ensures.fault bs fed.taken fault).0 (c.in_err-take.was ∙ ap Err same));
   too_few = search rules;
 }
@@ -47,21 +46,19 @@ returns-then-end-lt-PAGE-clause-answer g c = record {
       record {
         taken = c.in_ok-take.ensures.taken bs fed.taken;
         going = fed.going;
-        table_in = fed.table_in;
-        matched = fed.matched;
         page_is = page_open bs part page c.copy_from_slice.new.self _ c.args.begun begun (omega arith) (omega arith) c.copy_from_slice.ensures.after fed.page_is;
         few = fed.few;
         count = fed.count;
         on_disk = fed.on_disk;
-        output = output_open free bs part c.args.self.now.frames c.args.self.now.table c.args.self.now.map c.args.self.now.writer (omega arith) fed.output;
+        output = output_open free bs part c.args.self.now.memory c.args.self.now.map c.args.self.now.writer (omega arith) fed.output;
       };
   stream = search rules;
   suffice = search rules;
   too_few = search rules;
 }
 
-pub put_full-requires-clause-put : goal.put_full-requires-clause-put
-put_full-requires-clause-put g c =
+pub put_full-requires : goal.put_full-requires
+put_full-requires g c =
     let free = c.requires.session.0 in
     let bs = c.requires.session.1 in
     let fed = c.requires.session.2 in
@@ -73,9 +70,9 @@ put_full-requires-clause-put g c =
     c.copy_from_slice.ensures.after fed.page_is c.from_bytes-page.ensures.bytes c.from_bytes-page.ensures.page c.requires.some (c.in_ok-take.ensures.taken bs fed.taken).read.sound in
     let blocks = g.D.Disk.block_count c.args.disk.now in
     let same : s.blocks ≡ blocks = sym c.requires.blocks in
-    let P : ℕ → Type 0 = λ n. CanPut free s.frames s.table s.map n c.from_bytes-page.result s.writer in
-    let can = subst P same (can_put free bs c.args.part.now c.from_bytes-page.result s.frames s.table s.map s.blocks s.writer fed.few fed.count fed.on_disk full fed.output) in
-    (free, can)
+    let P : ℕ → Type 0 = λ n. CanPut free s.memory s.map n c.from_bytes-page.result s.writer in
+    let can = subst P same (can_put free bs c.args.part.now c.from_bytes-page.result s.memory s.map s.blocks s.writer fed.few fed.count fed.on_disk full fed.output) in
+    record { put = (free, can) }
 
 pub returns-in_err-put_full-clause-answer : goal.returns-in_err-put_full-clause-answer
 returns-in_err-put_full-clause-answer g c = record {
@@ -91,12 +88,12 @@ returns-in_err-put_full-clause-answer g c = record {
       c.copy_from_slice.ensures.after fed.page_is c.from_bytes-page.ensures.bytes c.from_bytes-page.ensures.page c.requires.some (c.in_ok-take.ensures.taken bs fed.taken).read.sound in
       let blocks = g.D.Disk.block_count c.args.disk.now in
       let same : s.blocks ≡ blocks = sym c.requires.blocks in
-      let P : ℕ → Type 0 = λ n. CanPut free s.frames s.table s.map n c.from_bytes-page.result s.writer in
-      let can = subst P same (can_put free bs c.args.part.now c.from_bytes-page.result s.frames s.table s.map s.blocks s.writer fed.few fed.count fed.on_disk full fed.output) in
+      let P : ℕ → Type 0 = λ n. CanPut free s.memory s.map n c.from_bytes-page.result s.writer in
+      let can = subst P same (can_put free bs c.args.part.now c.from_bytes-page.result s.memory s.map s.blocks s.writer fed.few fed.count fed.on_disk full fed.output) in
       let p = err_from_is_err_and c.from_residual-in_err-put_full.result c.from_residual-in_err-put_full.ensures.1 in
       let why : c.in_err-put_full.field-0.0 ≡ stop.NoSlots told need = err_same c.from_residual-in_err-put_full.result _ _ (p.1 ∙ ap Err p.2) is in
       let few = (c.put_full.ensures.puts free can).too_few told need (c.in_err-put_full.was ∙ ap Err why) in
-      too_few free bs c.args.part.now c.from_bytes-page.result s.frames s.table s.map s.writer told need full fed.output few;
+      too_few free bs c.args.part.now c.from_bytes-page.result s.memory s.map s.writer told need full fed.output few;
 }
 
 pub returns-clause-answer : goal.returns-clause-answer
@@ -110,20 +107,18 @@ returns-clause-answer g c = record {
       c.copy_from_slice.ensures.after fed.page_is c.from_bytes-page.ensures.bytes c.from_bytes-page.ensures.page c.requires.some (c.in_ok-take.ensures.taken bs fed.taken).read.sound in
       let blocks = g.D.Disk.block_count c.args.disk.now in
       let same : s.blocks ≡ blocks = sym c.requires.blocks in
-      let P : ℕ → Type 0 = λ n. CanPut free s.frames s.table s.map n c.from_bytes-page.result s.writer in
-      let can = subst P same (can_put free bs c.args.part.now c.from_bytes-page.result s.frames s.table s.map s.blocks s.writer fed.few fed.count fed.on_disk full fed.output) in
+      let P : ℕ → Type 0 = λ n. CanPut free s.memory s.map n c.from_bytes-page.result s.writer in
+      let can = subst P same (can_put free bs c.args.part.now c.from_bytes-page.result s.memory s.map s.blocks s.writer fed.few fed.count fed.on_disk full fed.output) in
       let put = (c.in_ok-put_full.ensures.puts free can).put in
       let enough = (c.in_ok-put_full.ensures.puts free can).enough in
       record {
         taken = c.in_ok-take.ensures.taken bs fed.taken;
         going = fed.going;
-        table_in = subst (λ n. s.table.first + table_frame_count s.table.slots ≤ n) (sym c.put_full.ensures.kept.len) fed.table_in;
-        matched = c.put_full.ensures.kept.runs;
         page_is = page_closed bs c.args.part.now _ (omega arith);
         few = fed.few;
         count = fed.count;
         on_disk = fed.on_disk;
-        output = output_full free bs c.args.part.now c.from_bytes-page.result s.frames c.put_full.new.frames s.table s.map s.writer c.put_full.new.writer full fed.output put enough;
+        output = output_full free bs c.args.part.now c.from_bytes-page.result s.memory c.put_full.new.memory s.map s.writer c.put_full.new.writer full fed.output put enough;
       };
   stream = search rules;
   suffice = search rules;
@@ -169,11 +164,11 @@ returns-in_err-put_full-clause-writes g c = record {
       c.copy_from_slice.ensures.after fed.page_is c.from_bytes-page.ensures.bytes c.from_bytes-page.ensures.page c.requires.some (c.in_ok-take.ensures.taken bs fed.taken).read.sound in
       let blocks = g.D.Disk.block_count c.args.disk.now in
       let same : s.blocks ≡ blocks = sym c.requires.blocks in
-      let P : ℕ → Type 0 = λ n. CanPut free s.frames s.table s.map n c.from_bytes-page.result s.writer in
-      let can = subst P same (can_put free bs c.args.part.now c.from_bytes-page.result s.frames s.table s.map s.blocks s.writer fed.few fed.count fed.on_disk full fed.output) in
+      let P : ℕ → Type 0 = λ n. CanPut free s.memory s.map n c.from_bytes-page.result s.writer in
+      let can = subst P same (can_put free bs c.args.part.now c.from_bytes-page.result s.memory s.map s.blocks s.writer fed.few fed.count fed.on_disk full fed.output) in
       let a = g.D.Disk.content c.args.disk.now in
       let b = g.D.Disk.content c.put_full.new.disk in
-      on_err_any c.from_residual-in_err-put_full.result _ (told_stop free bs s.frames s.table s.map s.writer a b fed.output (c.in_err-put_full.ensures.puts free can).stopped);
+      on_err_any c.from_residual-in_err-put_full.result _ (told_stop free bs s.memory s.map s.writer a b fed.output (c.in_err-put_full.ensures.puts free can).stopped);
 }
 
 pub returns-clause-writes : goal.returns-clause-writes
@@ -187,18 +182,18 @@ returns-clause-writes g c = record {
       c.copy_from_slice.ensures.after fed.page_is c.from_bytes-page.ensures.bytes c.from_bytes-page.ensures.page c.requires.some (c.in_ok-take.ensures.taken bs fed.taken).read.sound in
       let blocks = g.D.Disk.block_count c.args.disk.now in
       let same : s.blocks ≡ blocks = sym c.requires.blocks in
-      let P : ℕ → Type 0 = λ n. CanPut free s.frames s.table s.map n c.from_bytes-page.result s.writer in
-      let can = subst P same (can_put free bs c.args.part.now c.from_bytes-page.result s.frames s.table s.map s.blocks s.writer fed.few fed.count fed.on_disk full fed.output) in
+      let P : ℕ → Type 0 = λ n. CanPut free s.memory s.map n c.from_bytes-page.result s.writer in
+      let can = subst P same (can_put free bs c.args.part.now c.from_bytes-page.result s.memory s.map s.blocks s.writer fed.few fed.count fed.on_disk full fed.output) in
       let put = (c.in_ok-put_full.ensures.puts free can).put in
       let enough = (c.in_ok-put_full.ensures.puts free can).enough in
       let a = g.D.Disk.content c.args.disk.now in
       let b = g.D.Disk.content c.put_full.new.disk in
       let pages = page_at (bs ++ c.args.part.now) in
       let next : c.from_bytes-page.result ≡ pages (pages_written s.writer) =
-      next_page bs c.args.part.now c.from_bytes-page.result full ∙ ap pages (page_count free bs c.args.part.now c.from_bytes-page.result s.frames s.table s.map s.writer full fed.output) in
+      next_page bs c.args.part.now c.from_bytes-page.result full ∙ ap pages (page_count free bs c.args.part.now c.from_bytes-page.result s.memory s.map s.writer full fed.output) in
       let made = (c.in_ok-put_full.ensures.puts free can).done pages of next in
       changes_as (MakesMore s.map free (pages_in c.from_bytes-page.result s.writer) pages (writes_made s.writer) (writes_made c.put_full.new.writer)) (WritesOn s.map free bs c.args.part.now) a b
-      (written_on free bs c.args.part.now c.from_bytes-page.result s.frames c.put_full.new.frames s.table s.map s.writer c.put_full.new.writer full fed.output put enough) made;
+      (written_on free bs c.args.part.now c.from_bytes-page.result s.memory c.put_full.new.memory s.map s.writer c.put_full.new.writer full fed.output put enough) made;
   outside = λ free bs fed.
       let s = c.args.self.now in
       let size : length s.page ≡ 4096 = search rules in
@@ -208,11 +203,11 @@ returns-clause-writes g c = record {
       c.copy_from_slice.ensures.after fed.page_is c.from_bytes-page.ensures.bytes c.from_bytes-page.ensures.page c.requires.some (c.in_ok-take.ensures.taken bs fed.taken).read.sound in
       let blocks = g.D.Disk.block_count c.args.disk.now in
       let same : s.blocks ≡ blocks = sym c.requires.blocks in
-      let P : ℕ → Type 0 = λ n. CanPut free s.frames s.table s.map n c.from_bytes-page.result s.writer in
-      let can = subst P same (can_put free bs c.args.part.now c.from_bytes-page.result s.frames s.table s.map s.blocks s.writer fed.few fed.count fed.on_disk full fed.output) in
+      let P : ℕ → Type 0 = λ n. CanPut free s.memory s.map n c.from_bytes-page.result s.writer in
+      let can = subst P same (can_put free bs c.args.part.now c.from_bytes-page.result s.memory s.map s.blocks s.writer fed.few fed.count fed.on_disk full fed.output) in
       let a = g.D.Disk.content c.args.disk.now in
       let b = g.D.Disk.content c.put_full.new.disk in
-      told_full free bs c.args.part.now s.frames s.table s.map s.writer a b (omega (arith, length-append bs c.args.part.now)) fed.output (c.in_ok-put_full.ensures.puts free can).outside;
+      told_full free bs c.args.part.now s.memory s.map s.writer a b (omega (arith, length-append bs c.args.part.now)) fed.output (c.in_ok-put_full.ensures.puts free can).outside;
   stopped = search rules;
 }
 
@@ -236,8 +231,8 @@ returns-in_err-put_full-clause-time g c = λ tells free bs fed.
     c.copy_from_slice.ensures.after fed.page_is c.from_bytes-page.ensures.bytes c.from_bytes-page.ensures.page c.requires.some (c.in_ok-take.ensures.taken bs fed.taken).read.sound in
     let blocks = g.D.Disk.block_count c.args.disk.now in
     let same : s.blocks ≡ blocks = sym c.requires.blocks in
-    let P : ℕ → Type 0 = λ n. CanPut free s.frames s.table s.map n c.from_bytes-page.result s.writer in
-    let can = subst P same (can_put free bs c.args.part.now c.from_bytes-page.result s.frames s.table s.map s.blocks s.writer fed.few fed.count fed.on_disk full fed.output) in
+    let P : ℕ → Type 0 = λ n. CanPut free s.memory s.map n c.from_bytes-page.result s.writer in
+    let can = subst P same (can_put free bs c.args.part.now c.from_bytes-page.result s.memory s.map s.blocks s.writer fed.few fed.count fed.on_disk full fed.output) in
     c.put_full.ensures.time tells free can
 
 pub returns-clause-time : goal.returns-clause-time
@@ -250,6 +245,6 @@ returns-clause-time g c = λ tells free bs fed.
     c.copy_from_slice.ensures.after fed.page_is c.from_bytes-page.ensures.bytes c.from_bytes-page.ensures.page c.requires.some (c.in_ok-take.ensures.taken bs fed.taken).read.sound in
     let blocks = g.D.Disk.block_count c.args.disk.now in
     let same : s.blocks ≡ blocks = sym c.requires.blocks in
-    let P : ℕ → Type 0 = λ n. CanPut free s.frames s.table s.map n c.from_bytes-page.result s.writer in
-    let can = subst P same (can_put free bs c.args.part.now c.from_bytes-page.result s.frames s.table s.map s.blocks s.writer fed.few fed.count fed.on_disk full fed.output) in
+    let P : ℕ → Type 0 = λ n. CanPut free s.memory s.map n c.from_bytes-page.result s.writer in
+    let can = subst P same (can_put free bs c.args.part.now c.from_bytes-page.result s.memory s.map s.blocks s.writer fed.few fed.count fed.on_disk full fed.output) in
     c.put_full.ensures.time tells free can
