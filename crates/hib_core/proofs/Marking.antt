@@ -22,6 +22,7 @@ use Rattle.plain_machine.specs.Mark.{mark_flags}
 use Rattle.protocol_laws.proofs.Back.{names_laid}
 use Rattle.protocol_laws.proofs.Ending.{ends_asleep, end_leaves, ends, end_fails}
 use Rattle.machine.specs.declared.machine.Machine.{Machine}
+use Rattle.unmark.specs.Unmarking.{from_write}
 use Rattle.hib_core.specs.Hibernation.{shown_by, suspends_at, activity_at, activity_of, header_at}
 use Rattle.hib_core.specs.Ready.{CanStep}
 use Rattle.hib_core.specs.Row.{HibernationStandsFor, IsOf, Simulates, IsSavingOf}
@@ -83,9 +84,9 @@ marked_row machine frames runs hib saving header c c' can at whole whole' writes
     ))
 
 pub mark_failed_row : (machine : Machine) (frames : Memory) (runs : SlotRuns) (hib : Hib) (saving : Saving) (header : List ℕ) (c c' : disk.Content) → CanStep machine frames runs hib → hib.stage ≡ stage.Mark saving header → disk.IsContent machine.blocks c → disk.IsContent machine.blocks c' → disk.FailsToWrite (block_of_slot machine.hw 0) (mark_of machine hib saving header) c c' →
-    Simulates machine frames hib machine frames (gone_on hib (stage.TakeBack undo.Write (mark_of machine hib saving header))) (event.Step actor.Core) (reply.Undo undo.Write 0) c c'
+    Simulates machine frames hib machine frames (gone_on hib (stage.Undo undo.Write (from_write (mark_of machine hib saving header)))) (event.Step actor.Core) (reply.Undo undo.Write 0) c c'
 mark_failed_row machine frames runs hib saving header c c' can at whole whole' fails =
-    let new = gone_on hib (stage.TakeBack undo.Write (mark_of machine hib saving header)) in
+    let new = gone_on hib (stage.Undo undo.Write (from_write (mark_of machine hib saving header))) in
     row_at_hibernation machine frames hib machine frames new (event.Step actor.Core) (reply.Undo undo.Write 0) c c' (suspends_at saving.ending) saving.done (ap activity_at at)
     (λ i a s.
     let of = s.image in
@@ -98,7 +99,7 @@ mark_failed_row machine frames runs hib saving header c c' can at whole whole' f
         stands = record {
           stands = mark_fails machine.hw (shown_by machine frames hib) (shown_by machine frames new) c c' machine.blocks (suspends_at saving.ending) i a saving.done (is_over machine frames runs hib c a i can whole of) whole' s.stands place
               (subst (λ (p : List ℕ). disk.FailsToWrite (block_of_slot machine.hw 0) p c c') is fails) is refl (record { shows = s.stands.parts.behind.memory; names = s.stands.parts.names; copies = s.stands.parts.written.copies });
-          image = still_of machine.hw frames frames hib a i (stage.TakeBack undo.Write (mark_of machine hib saving header)) tt of;
+          image = still_of machine.hw frames frames hib a i (stage.Undo undo.Write (from_write (mark_of machine hib saving header))) tt of;
         };
         area = mark_keeps machine frames runs hib saving header c c' i a can at whole place s (inr fails);
         unwritten = λ b not. unwritten_mark machine.hw a i saving.done b c c' place fails.others not;
@@ -160,9 +161,9 @@ asleep_row machine frames runs hib saving header c c' can at sleeps_then whole s
     ))
 
 pub end_failed_row : (machine : Machine) (frames : Memory) (runs : SlotRuns) (hib : Hib) (saving : Saving) (header : List ℕ) (c : disk.Content) → CanStep machine frames runs hib → hib.stage ≡ stage.End saving header →
-    Simulates machine frames hib machine frames (gone_on hib (stage.TakeBack undo.Sync header)) (event.Step actor.Core) (reply.Undo undo.Sync 0) c c
+    Simulates machine frames hib machine frames (gone_on hib (stage.Undo undo.Sync (from_write header))) (event.Step actor.Core) (reply.Undo undo.Sync 0) c c
 end_failed_row machine frames runs hib saving header c can at =
-    let new = gone_on hib (stage.TakeBack undo.Sync header) in
+    let new = gone_on hib (stage.Undo undo.Sync (from_write header)) in
     row_at_hibernation machine frames hib machine frames new (event.Step actor.Core) (reply.Undo undo.Sync 0) c c (suspends_at saving.ending) saving.done (ap activity_at at)
     (λ i a s.
     let of = s.image in
@@ -173,7 +174,7 @@ end_failed_row machine frames runs hib saving header c can at =
         step = end_may_fail machine.hw (disk.as_it_reads c) (suspends_at saving.ending) i a saving.done place;
         stands = record {
           stands = end_fails machine.hw (shown_by machine frames hib) (shown_by machine frames new) c (suspends_at saving.ending) i a saving.done s.stands place (sym (ap header_at at)) refl (record { shows = s.stands.parts.behind.memory; names = s.stands.parts.names; copies = s.stands.parts.written.copies });
-          image = still_of machine.hw frames frames hib a i (stage.TakeBack undo.Sync header) tt of;
+          image = still_of machine.hw frames frames hib a i (stage.Undo undo.Sync (from_write header)) tt of;
         };
         area = same_area machine.hw (disk.as_it_reads c);
         unwritten = λ b not. block_same b _;

@@ -4,7 +4,7 @@ use Rattle.definitions.specs.Disk as disk
 use Rattle.swap_slots.specs.Runs.{SlotRuns}
 use Rattle.plain_machine.specs.Machine.{Memory, IsHardware}
 use Rattle.plain_machine.specs.Refusals.{refusal, refused_if, is_held, busy, busy_reply}
-use Rattle.plain_machine.specs.Shows.{ShowsHeld}
+use Rattle.plain_machine.specs.Shows.{ShowsHeld, settles}
 use Rattle.plain_machine.specs.Stands.{Stands}
 use Rattle.plain_machine.specs.State.{State, on, settling, Running}
 use Rattle.plain_machine.specs.Step.{Step}
@@ -17,6 +17,10 @@ use Rattle.protocol_laws.proofs.HeaderLeft.{left_same}
 use Rattle.protocol_laws.proofs.Settling.{settle_begins}
 use Rattle.protocol_laws.proofs.Unwritten.{block_same}
 use Rattle.machine.specs.declared.machine.Machine.{Machine}
+use Rattle.unmark.specs.Unmarking.{calls_before}
+use Rattle.unmark.specs.declared.unmarking.Unmark.{Unmark}
+use Rattle.unmark.specs.declared.unmarking.UnmarkCall.{UnmarkCall}
+use Rattle.unmark.specs.declared.unmarking.UnmarkCall.TheVariants as call
 use Rattle.hib_core.specs.Begin.{busy_of}
 use Rattle.hib_core.specs.Hibernation.{running_by, shown_by}
 use Rattle.hib_core.specs.Ready.{CanBegin, CanStep}
@@ -77,9 +81,9 @@ busy_row machine frames hib t c flies = refused_settle_row machine frames hib (r
 pub nothing_held_row : (machine : Machine) (frames : Memory) (hib : Hib) (c : disk.Content) → busy_of machine ≡ None → machine.held ≡ No → IsBegun machine frames frames (record hib { stage = stage.Idle }) job.Settle reply.NothingHeld c
 nothing_held_row machine frames hib c idle none = refused_settle_row machine frames hib reply.NothingHeld c (λ a here. holds_nothing machine frames c a idle none here)
 
-pub settle_begun_row : (machine : Machine) (frames : Memory) (hib : Hib) (c : disk.Content) → busy_of machine ≡ None → machine.held ≢ No → IsBegun machine frames frames (record hib { stage = stage.SettleRead }) job.Settle (reply.More 0 3) c
-settle_begun_row machine frames hib c idle some s stands =
-    let new = record hib { stage = stage.SettleRead } in
+pub settle_begun_row : (machine : Machine) (frames : Memory) (hib : Hib) (unmark : Unmark) (c : disk.Content) → busy_of machine ≡ None → machine.held ≢ No → unmark.next ≡ call.Read → IsBegun machine frames frames (record hib { stage = stage.Settle unmark }) job.Settle (reply.More 0 3) c
+settle_begun_row machine frames hib unmark c idle some first s stands =
+    let new = record hib { stage = stage.Settle unmark } in
     let at = at_run s stands.activity in
     let a : Running = at.0 in
     let here : Stands machine.hw (running_by machine frames) c (on a) = subst (Stands machine.hw (running_by machine frames) c) at.1 stands in
@@ -89,7 +93,7 @@ settle_begun_row machine frames hib c idle some s stands =
       record {
         step = subst (λ (t : State). Step machine.hw (disk.as_it_reads c) t event.Settle (reply.More 0 3) (settling a 0)) (sym at.1)
             (accepted_step machine.hw (disk.as_it_reads c) (on a) event.Settle (reply.More 0 3) (settling a 0) goes (0, omega arith, refl));
-        stands = record { stands = settle_begins machine.hw (running_by machine frames) (shown_by machine frames new) c a here refl here.parts.memory names; image = tt };
+        stands = record { stands = settle_begins machine.hw (running_by machine frames) (shown_by machine frames new) c a here (ap (λ (n : UnmarkCall). settles (calls_before n)) first) here.parts.memory names; image = tt };
         area = same_area machine.hw (disk.as_it_reads c);
         unwritten = λ b not_in. block_same b _;
         leaves = tt;
@@ -97,8 +101,8 @@ settle_begun_row machine frames hib c idle some s stands =
       },
     )
 
-pub can_settle : (machine : Machine) (frames : Memory) (runs : SlotRuns) (hib : Hib) → IsHardware machine.hw → machine.blocks < 2 ^ 32 → machine.held ≢ No → CanBegin machine frames runs hib → CanStep machine frames runs (record hib { stage = stage.SettleRead })
-can_settle machine frames runs hib hw few some can = record {
+pub can_settle : (machine : Machine) (frames : Memory) (runs : SlotRuns) (hib : Hib) (unmark : Unmark) → IsHardware machine.hw → machine.blocks < 2 ^ 32 → machine.held ≢ No → CanBegin machine frames runs hib → CanStep machine frames runs (record hib { stage = stage.Settle unmark })
+can_settle machine frames runs hib unmark hw few some can = record {
   hardware = hw;
   few = few;
   size = can.run.size;

@@ -3,14 +3,14 @@ use Rattle.protocol_laws.proofs.Leaving.{leaves_undoing}
 use Rattle.protocol_laws.proofs.Unwritten.{block_same, block_synced, unwritten_header}
 use Rattle.protocol_laws.proofs.HeaderLeft.{marks_same, marks_synced}
 use Rattle.protocol_laws.proofs.Undone.{undo_adds_no_mark, takes_mark_back, undo_write_fails, undo_syncs, undo_sync_fails}
-use Rattle.std.proofs.Common.{◌≡◌, List, All, [], inl, inr, refl, sym, ap, ◌∙◌, subst, ℕ}
+use Rattle.std.proofs.Common.{◌≡◌, ◌-◌, List, All, [], inl, inr, refl, sym, ap, ◌∙◌, subst, ℕ}
 use Rattle.definitions.specs.Bytes.{IsPage}
 use Rattle.definitions.specs.Disk as disk
-use Rattle.definitions.specs.SwapHeader.{taken_back}
+use Rattle.definitions.specs.SwapHeader.{taken_back, unmarked_block}
 use Rattle.swap_slots.specs.Runs.{SlotRuns}
 use Rattle.plain_machine.specs.Machine.{Hardware, Memory, block_of_slot, raw_slot_entry}
 use Rattle.plain_machine.specs.Image.{Image}
-use Rattle.plain_machine.specs.Shows.{RunsAs, ShowsHeld, seen_frames}
+use Rattle.plain_machine.specs.Shows.{undoes, RunsAs, ShowsHeld, seen_frames}
 use Rattle.plain_machine.specs.State.{on, undoing, Running, nothing, maybe, own}
 use Rattle.plain_machine.specs.Stands.{NamesOnly}
 use Rattle.plain_machine.specs.Step.{undone_fault}
@@ -22,6 +22,8 @@ use Rattle.plain_machine.specs.declared.reply.Left.TheVariants.{Gone, Unsure}
 use Rattle.plain_machine.specs.declared.reply.Reply.TheVariants as reply
 use Rattle.plain_machine.specs.declared.reply.UndoCall.{UndoCall}
 use Rattle.image_laws.specs.ImageBlocks.{Tries}
+use Rattle.image_laws.proofs.ImageBlocks.{length-taken_back}
+use Rattle.protocol_laws.proofs.Marking.{area_of-marked}
 use Rattle.protocol_laws.specs.Rows.{IsSameArea}
 use Rattle.protocol_laws.specs.Slots.{IsMemoryOf}
 use Rattle.protocol_laws.specs.Undo.{with_held}
@@ -29,7 +31,11 @@ use Rattle.machine.specs.declared.machine.Machine.{Machine}
 use Rattle.machine.specs.Flights.{flights_in}
 use Rattle.machine.specs.Running.{reason_of}
 use Rattle.machine.specs.declared.flight.Flight.{Flight}
-use Rattle.hib_core.specs.Hibernation.{shown_by, activity_at, header_at}
+use Rattle.unmark.specs.Unmarking.{calls_before}
+use Rattle.unmark.specs.declared.unmarking.Unmark.{Unmark}
+use Rattle.unmark.specs.declared.unmarking.UnmarkCall.{UnmarkCall}
+use Rattle.unmark.specs.declared.unmarking.UnmarkCall.TheVariants as unmark_call
+use Rattle.hib_core.specs.Hibernation.{shown_by, activity_at, activity_of, header_at}
 use Rattle.hib_core.specs.Ready.{CanStep}
 use Rattle.hib_core.specs.Row.{HibernationStandsFor, Simulates}
 use Rattle.hib_core.specs.declared.hib.Hib.{Hib}
@@ -55,24 +61,31 @@ back_keeps machine frames runs hib c c' i call a can whole page s tries =
     let mark = s.stands.parts.before in
     kept_by_header machine.hw machine.blocks (taken_back (header_at hib.stage)) c c' whole can.header page mark.unmarked mark.area tries
 
-pub back_row : (machine : Machine) (frames : Memory) (runs : SlotRuns) (hib : Hib) (c c' : disk.Content) (call : UndoCall) (header : List ℕ) → CanStep machine frames runs hib → IsPage header → IsPage (taken_back header) → hib.stage ≡ stage.TakeBack call header → disk.IsContent machine.blocks c → disk.IsContent machine.blocks c' →
-    disk.Writes (block_of_slot machine.hw 0) (taken_back header) c c' → Simulates machine frames hib machine frames (gone_on hib (stage.EndUndo call)) (event.Step actor.Core) (reply.Undo call 1) c c'
-back_row machine frames runs hib c c' call header can header_page back_page at whole whole' wrote =
-    let new = gone_on hib (stage.EndUndo call) in
-    let kept : header ≡ header_at hib.stage = sym (ap header_at at) in
+-- what an undo is at, by the call that is next
+undoing_at : (call : UndoCall) (next this : UnmarkCall) → next ≡ this → undoes call (calls_before next - 1) ≡ undoes call (calls_before this - 1)
+undoing_at call next this is = ap (λ (n : UnmarkCall). undoes call (calls_before n - 1)) is
+
+undoes_by : (hib : Hib) (call : UndoCall) (unmark : Unmark) (next : UnmarkCall) → hib.stage ≡ stage.Undo call unmark → unmark.next ≡ next → activity_of hib ≡ undoes call (calls_before next - 1)
+undoes_by hib call unmark next at is = ap activity_at at ∙ undoing_at call unmark.next next is
+
+pub back_row : (machine : Machine) (frames : Memory) (runs : SlotRuns) (hib : Hib) (c c' : disk.Content) (call : UndoCall) (old new : Unmark) → CanStep machine frames runs hib → IsPage old.header → hib.stage ≡ stage.Undo call old → old.next ≡ unmark_call.Write → new.next ≡ unmark_call.Sync → disk.IsContent machine.blocks c → disk.IsContent machine.blocks c' →
+    disk.Writes (block_of_slot machine.hw 0) (unmarked_block old.header) c c' → Simulates machine frames hib machine frames (gone_on hib (stage.Undo call new)) (event.Step actor.Core) (reply.Undo call 1) c c'
+back_row machine frames runs hib c c' call old unmark can header_page at from to whole whole' wrote =
+    let new = gone_on hib (stage.Undo call unmark) in
+    let kept : old.header ≡ header_at hib.stage = sym (ap header_at at) in
     let page : IsPage (header_at hib.stage) = subst IsPage kept header_page in
-    let back : IsPage (taken_back (header_at hib.stage)) = subst (λ (p : List ℕ). IsPage (taken_back p)) kept back_page in
-    let writes = subst (λ (p : List ℕ). disk.Writes (block_of_slot machine.hw 0) (taken_back p) c c') kept wrote in
-    row_at_undo machine frames hib machine frames new (event.Step actor.Core) (reply.Undo call 1) c c' call 0 (ap activity_at at)
+    let back : IsPage (taken_back (header_at hib.stage)) = length-taken_back (header_at hib.stage) page in
+    row_at_undo machine frames hib machine frames new (event.Step actor.Core) (reply.Undo call 1) c c' call 0 (undoes_by hib call old unmark_call.Write at from)
     (λ i a s.
-    let of = s.image in (
+    let of = s.image in
+    let writes = subst (λ (p : List ℕ). disk.Writes (block_of_slot machine.hw 0) p c c') (ap unmarked_block kept ∙ area_of-marked (header_at hib.stage) s.stands.parts.before.marked) wrote in (
       undoing i call a 1,
       record {
         step = may_take_back machine.hw (disk.as_it_reads c) i call a;
         stands = record {
-          stands = takes_mark_back machine.hw (shown_by machine frames hib) (shown_by machine frames new) c c' machine.blocks i call a (is_over machine frames runs hib c a i can whole of) page whole' s.stands writes refl
+          stands = takes_mark_back machine.hw (shown_by machine frames hib) (shown_by machine frames new) c c' machine.blocks i call a (is_over machine frames runs hib c a i can whole of) page whole' s.stands writes (undoing_at call unmark.next unmark_call.Sync to)
               s.stands.parts.behind.memory s.stands.parts.names;
-          image = still_of machine.hw frames frames hib a i (stage.EndUndo call) tt of;
+          image = still_of machine.hw frames frames hib a i (stage.Undo call unmark) tt of;
         };
         area = back_keeps machine frames runs hib c c' i call a can whole back s (inl writes);
         unwritten = λ b not. unwritten_header machine.hw [] b c c' writes.others not;
@@ -91,16 +104,16 @@ with_flag h machine machine' frames a i area held flights runs = record {
   fits = runs.fits;
 }
 
-pub back_failed_row : (machine : Machine) (frames : Memory) (runs : SlotRuns) (hib : Hib) (c c' : disk.Content) (call : UndoCall) (header : List ℕ) → CanStep machine frames runs hib → IsPage header → IsPage (taken_back header) → hib.stage ≡ stage.TakeBack call header → disk.IsContent machine.blocks c → disk.IsContent machine.blocks c' →
-    disk.FailsToWrite (block_of_slot machine.hw 0) (taken_back header) c c' → Simulates machine frames hib (unsure machine) frames (record hib { stage = stage.Idle }) (event.Step actor.Core) (undone_fault call Unsure) c c'
-back_failed_row machine frames runs hib c c' call header can header_page back_page at whole whole' failed =
+pub back_failed_row : (machine : Machine) (frames : Memory) (runs : SlotRuns) (hib : Hib) (c c' : disk.Content) (call : UndoCall) (old : Unmark) → CanStep machine frames runs hib → IsPage old.header → hib.stage ≡ stage.Undo call old → old.next ≡ unmark_call.Write → disk.IsContent machine.blocks c → disk.IsContent machine.blocks c' →
+    disk.FailsToWrite (block_of_slot machine.hw 0) (unmarked_block old.header) c c' → Simulates machine frames hib (unsure machine) frames (record hib { stage = stage.Idle }) (event.Step actor.Core) (undone_fault call Unsure) c c'
+back_failed_row machine frames runs hib c c' call old can header_page at from whole whole' failed =
     let new = record hib { stage = stage.Idle } in
-    let kept : header ≡ header_at hib.stage = sym (ap header_at at) in
+    let kept : old.header ≡ header_at hib.stage = sym (ap header_at at) in
     let page : IsPage (header_at hib.stage) = subst IsPage kept header_page in
-    let back : IsPage (taken_back (header_at hib.stage)) = subst (λ (p : List ℕ). IsPage (taken_back p)) kept back_page in
-    let fails = subst (λ (p : List ℕ). disk.FailsToWrite (block_of_slot machine.hw 0) (taken_back p) c c') kept failed in
-    row_at_undo machine frames hib (unsure machine) frames new (event.Step actor.Core) (undone_fault call Unsure) c c' call 0 (ap activity_at at)
-    (λ i a s. (
+    let back : IsPage (taken_back (header_at hib.stage)) = length-taken_back (header_at hib.stage) page in
+    row_at_undo machine frames hib (unsure machine) frames new (event.Step actor.Core) (undone_fault call Unsure) c c' call 0 (undoes_by hib call old unmark_call.Write at from)
+    (λ i a s.
+    let fails = subst (λ (p : List ℕ). disk.FailsToWrite (block_of_slot machine.hw 0) p c c') (ap unmarked_block kept ∙ area_of-marked (header_at hib.stage) s.stands.parts.before.marked) failed in (
       on (with_held a (maybe (own i))),
       record {
         step = take_back_may_fail machine.hw (disk.as_it_reads c) i call a;
@@ -116,11 +129,11 @@ back_failed_row machine frames runs hib c c' call header can header_page back_pa
       },
     ))
 
-pub undone_row : (machine : Machine) (frames frames' : Memory) (runs : SlotRuns) (hib : Hib) (c c' : disk.Content) (call : UndoCall) → CanStep machine frames runs hib → All IsPage frames → hib.stage ≡ stage.EndUndo call → disk.IsContent machine.blocks c →
+pub undone_row : (machine : Machine) (frames frames' : Memory) (runs : SlotRuns) (hib : Hib) (c c' : disk.Content) (call : UndoCall) (old : Unmark) → CanStep machine frames runs hib → All IsPage frames → hib.stage ≡ stage.Undo call old → old.next ≡ unmark_call.Sync → disk.IsContent machine.blocks c →
     disk.Syncs c c' → frames' ≡ seen_frames machine.hw frames → Simulates machine frames hib (certain machine) frames' (record hib { stage = stage.Idle }) (event.Step actor.Core) (undone_fault call Gone) c c'
-undone_row machine frames frames' runs hib c c' call can pages at whole syncs given =
+undone_row machine frames frames' runs hib c c' call old can pages at from whole syncs given =
     let new = record hib { stage = stage.Idle } in
-    row_at_undo machine frames hib (certain machine) frames' new (event.Step actor.Core) (undone_fault call Gone) c c' call 1 (ap activity_at at)
+    row_at_undo machine frames hib (certain machine) frames' new (event.Step actor.Core) (undone_fault call Gone) c c' call 1 (undoes_by hib call old unmark_call.Sync at from)
     (λ i a s.
     let memory : IsMemoryOf machine.hw frames = record { pages = pages; table = can.table } in
     let back : RunsAs machine.hw machine.held (reason_of machine.area) (flights_in machine.flights) frames' a =
@@ -144,11 +157,11 @@ undone_row machine frames frames' runs hib c c' call can pages at whole syncs gi
       },
     ))
 
-pub end_failed_row : (machine : Machine) (frames : Memory) (runs : SlotRuns) (hib : Hib) (c : disk.Content) (call : UndoCall) → CanStep machine frames runs hib → hib.stage ≡ stage.EndUndo call → disk.IsContent machine.blocks c →
+pub end_failed_row : (machine : Machine) (frames : Memory) (runs : SlotRuns) (hib : Hib) (c : disk.Content) (call : UndoCall) (old : Unmark) → CanStep machine frames runs hib → hib.stage ≡ stage.Undo call old → old.next ≡ unmark_call.Sync → disk.IsContent machine.blocks c →
     Simulates machine frames hib (unsure machine) frames (record hib { stage = stage.Idle }) (event.Step actor.Core) (undone_fault call Unsure) c c
-end_failed_row machine frames runs hib c call can at whole =
+end_failed_row machine frames runs hib c call old can at from whole =
     let new = record hib { stage = stage.Idle } in
-    row_at_undo machine frames hib (unsure machine) frames new (event.Step actor.Core) (undone_fault call Unsure) c c call 1 (ap activity_at at)
+    row_at_undo machine frames hib (unsure machine) frames new (event.Step actor.Core) (undone_fault call Unsure) c c call 1 (undoes_by hib call old unmark_call.Sync at from)
     (λ i a s. (
       on (with_held a (maybe (own i))),
       record {

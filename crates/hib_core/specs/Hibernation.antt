@@ -1,5 +1,5 @@
 -- A hibernation or a settling, and what a machine shows during one.
-use Rattle.std.specs.Prelude.{◌≡◌, ℕ, List, [], Bool, true, false, None}
+use Rattle.std.specs.Prelude.{◌≡◌, ℕ, ◌-◌, List, [], Bool, true, false, None}
 use Rattle.plain_machine.specs.Machine.{Memory}
 use Rattle.plain_machine.specs.Shows.{WorldView, Activity, rests, runs, hibernates, undoes, settles, sleeps}
 use Rattle.plain_machine.specs.declared.held.Held.{Held}
@@ -9,6 +9,7 @@ use Rattle.plain_machine.specs.declared.reply.Reply.TheVariants as reply
 use Rattle.machine.specs.Flights.{flights_in}
 use Rattle.machine.specs.Running.{reason_of}
 use Rattle.machine.specs.declared.machine.Machine.{Machine}
+use Rattle.unmark.specs.Unmarking.{calls_before}
 use Rattle.hib_core.specs.declared.hib.Ending.{Ending}
 use Rattle.hib_core.specs.declared.hib.Ending.TheVariants as ending
 use Rattle.hib_core.specs.declared.hib.Hib.{Hib}
@@ -36,11 +37,8 @@ activity_at (stage.Sync saving) = activity_saving saving
 activity_at (stage.Read saving) = activity_saving saving
 activity_at (stage.Mark saving header) = activity_saving saving
 activity_at (stage.End saving header) = activity_saving saving
-activity_at (stage.TakeBack call header) = undoes call 0
-activity_at (stage.EndUndo call) = undoes call 1
-activity_at stage.SettleRead = settles 0
-activity_at (stage.SettleWrite header) = settles 1
-activity_at stage.SettleSync = settles 2
+activity_at (stage.Undo call unmark) = undoes call (calls_before unmark.next - 1)
+activity_at (stage.Settle unmark) = settles (calls_before unmark.next)
 
 abbrev pub activity_of : Hib → Activity
 activity_of hib = activity_at hib.stage
@@ -49,8 +47,8 @@ activity_of hib = activity_at hib.stage
 abbrev pub header_at : Stage → List ℕ
 header_at (stage.Mark saving header) = header
 header_at (stage.End saving header) = header
-header_at (stage.TakeBack call header) = header
-header_at (stage.SettleWrite header) = header
+header_at (stage.Undo call unmark) = unmark.header
+header_at (stage.Settle unmark) = unmark.header
 header_at _ = []
 
 -- whether there is a step to make, and what the machine is if there is none

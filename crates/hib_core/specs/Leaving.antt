@@ -56,7 +56,7 @@ Leaves gives h old new = GivesBack h old new
 
 -- a failed read ends a hibernation, which gives its slots back, or a settling, which leaves them
 abbrev pub change_at_read : Stage → Change
-change_at_read stage.SettleRead = stays
+change_at_read (stage.Settle unmark) = stays
 change_at_read _ = gives
 
 -- what a step does to memory, by its reply: if no image is held any more its slots are given back, and if one may still

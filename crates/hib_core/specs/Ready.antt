@@ -8,6 +8,7 @@ use Rattle.plain_machine.specs.declared.held.Held.TheVariants.{No}
 use Rattle.image_write.specs.Writing.{Writing, IsReady, AreOfImage, HasReadCopies, writes_of}
 use Rattle.machine.specs.Running.{CanRun, slot_table_of}
 use Rattle.machine.specs.declared.machine.Machine.{Machine}
+use Rattle.unmark.specs.Unmarking.{IsPastRead}
 use Rattle.hib_core.specs.declared.hib.Hib.{Hib}
 use Rattle.hib_core.specs.declared.hib.Saving.{Saving}
 use Rattle.snapshot.specs.Taken.{Taken}
@@ -35,7 +36,7 @@ pub record CanWrite (h : Hardware) (blocks : ℕ) (frames : Memory) (sets : Take
   pub copies : All (λ p. p < length frames) sets.copies
   pub reading : HasReadCopies sets.origs sets.copies sets.zeros writer
 
--- what the next step needs: the last four steps come after all writes
+-- what the next step needs: the last four steps come after all writes, and an undo has the header block
 abbrev pub CanMake : Stage → Hardware → ℕ → Memory → Taken → Type 0
 CanMake (stage.Write saving writer) h blocks frames sets =
     (saving.done + 4 < saving.steps) × CanWrite h blocks frames sets saving writer
@@ -43,6 +44,7 @@ CanMake (stage.Sync saving) h blocks frames sets = saving.done + 4 ≡ saving.st
 CanMake (stage.Read saving) h blocks frames sets = saving.done + 3 ≡ saving.steps
 CanMake (stage.Mark saving header) h blocks frames sets = saving.done + 2 ≡ saving.steps
 CanMake (stage.End saving header) h blocks frames sets = saving.done + 1 ≡ saving.steps
+CanMake (stage.Undo call unmark) h blocks frames sets = IsPastRead unmark.next
 CanMake _ h blocks frames sets = ⊤
 
 -- The machine is valid, and its disk has `blocks` blocks, the header block among them. Memory has the machine's page

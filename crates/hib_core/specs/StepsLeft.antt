@@ -1,6 +1,7 @@
 -- An upper bound for the steps left. It depends on the stage only, so it holds for a disk that doesn't tell its
 -- content.
 use Rattle.std.specs.Prelude.{ℕ, ◌+◌, ◌-◌}
+use Rattle.unmark.specs.Unmarking.{calls_left}
 use Rattle.hib_core.specs.declared.hib.Hib.{Hib}
 use Rattle.hib_core.specs.declared.hib.Saving.{Saving}
 use Rattle.hib_core.specs.declared.hib.Stage.{Stage}
@@ -19,11 +20,8 @@ steps_left_at (stage.Sync saving) = steps_left_saving saving
 steps_left_at (stage.Read saving) = steps_left_saving saving
 steps_left_at (stage.Mark saving header) = steps_left_saving saving
 steps_left_at (stage.End saving header) = steps_left_saving saving
-steps_left_at (stage.TakeBack call header) = 2
-steps_left_at (stage.EndUndo call) = 1
-steps_left_at stage.SettleRead = 3
-steps_left_at (stage.SettleWrite header) = 2
-steps_left_at stage.SettleSync = 1
+steps_left_at (stage.Undo call unmark) = calls_left unmark.next
+steps_left_at (stage.Settle unmark) = calls_left unmark.next
 
 -- Each step of a hibernation, an undo or a settling leaves fewer. If none of them is under way, no steps are left.
 abbrev pub saving_steps_left : Hib → ℕ

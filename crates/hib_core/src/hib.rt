@@ -13,6 +13,7 @@ use sector_disk::Disk;
 use snapshot::Snapshot;
 use std::alloc::Global;
 use swap_slots::FreeRuns;
+use unmark::Unmark;
 
 /// An operation that `Hib` can begin.
 #[derive(Clone, Copy)]
@@ -64,16 +65,11 @@ pub(crate) enum Stage {
     Mark(Saving, Page),
     /// The sync of the mark.
     End(Saving, Page),
-    /// In an undo, after a failed call: the write of the header block with the mark taken back.
-    TakeBack(UndoCall, Page),
-    /// In an undo: the sync of the cleared mark. No image exists after it.
-    EndUndo(UndoCall),
-    /// In a settling: the read of the header block.
-    SettleRead,
-    /// In a settling: the write of the header block with the mark taken back.
-    SettleWrite(Page),
-    /// In a settling: the sync of the cleared mark. No image exists after it.
-    SettleSync,
+    /// In an undo, after a failed call: a call that takes the mark back. The header block is known, so the first one is
+    /// the write.
+    Undo(UndoCall, Unmark),
+    /// In a settling: a call that takes the mark back.
+    Settle(Unmark),
 }
 
 /// A hibernation, a settling, or neither. All its memory is allocated when it is created.
@@ -136,11 +132,8 @@ impl Hib {
             | Stage::Read(_)
             | Stage::Mark(..)
             | Stage::End(..)
-            | Stage::TakeBack(..)
-            | Stage::EndUndo(_)
-            | Stage::SettleRead
-            | Stage::SettleWrite(_)
-            | Stage::SettleSync => Phase::UnderWay,
+            | Stage::Undo(..)
+            | Stage::Settle(_) => Phase::UnderWay,
         }
     }
 
@@ -165,11 +158,8 @@ impl Hib {
             Stage::Read(saving) => self.read_header(saving, machine, frames, runs, disk),
             Stage::Mark(..) => self.write_mark(machine, frames, runs, disk),
             Stage::End(..) => self.sync_mark(machine, frames, runs, disk),
-            Stage::TakeBack(..) => self.take_back(machine, frames, runs, disk),
-            Stage::EndUndo(call) => self.end_undo(call, machine, frames, runs, disk),
-            Stage::SettleRead => self.settle_read(machine, frames, runs, disk),
-            Stage::SettleWrite(_) => self.settle_write(machine, frames, runs, disk),
-            Stage::SettleSync => self.settle_sync(machine, frames, runs, disk),
+            Stage::Undo(..) => self.undo_mark(machine, frames, runs, disk),
+            Stage::Settle(_) => self.settle_on(machine, frames, runs, disk),
             Stage::Idle | Stage::Over | Stage::Asleep => unreachable!(),
         }
     }

@@ -3,6 +3,7 @@ ghost use Rattle.protocol_laws.specs.Rows.{TellsNewFault};
 ghost use Rattle.plain_machine.specs.declared.reply.Reply.TheVariants as reply;
 ghost use Rattle.plain_machine.specs.Mark.{mark_flags};
 ghost use Rattle.sector_disk.specs.Called.{Called, OneCall};
+ghost use Rattle.unmark.specs.Unmarking.{from_write};
 
 use crate::Hib;
 use crate::hib::{Ending, Stage};
@@ -15,6 +16,7 @@ use sector_disk::Disk;
 use snapshot::Snapshot;
 use std::mem::replace;
 use swap_slots::FreeRuns;
+use unmark::Unmark;
 
 // The mark (mark_swapfiles, kernel/power/swap.c).
 impl Hib {
@@ -91,10 +93,10 @@ impl Hib {
 
     /// Begins an undo, as the mark may be on the disk: keeps the marked header block, to take the mark back.
     fn begin_undo(&mut self, call: UndoCall, marked: Page) -> Reply
-        ensures hib { self.new ≡ record self.old { stage = stage.TakeBack call marked } }
+        ensures hib { self.new ≡ record self.old { stage = stage.Undo call (from_write marked) } }
         ensures reply { result ≡ reply.Undo call 0 }
     {
-        self.stage = Stage::TakeBack(call, marked);
+        self.stage = Stage::Undo(call, Unmark::of(marked));
         Reply::Undo { call, k: 0 }
     }
 }

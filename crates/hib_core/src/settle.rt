@@ -1,7 +1,5 @@
-ghost use Rattle.std.specs.Prelude.{◌≡◌, ℕ, List, ◌⊎◌, nat_eq};
-ghost use Rattle.std.specs.Cmp.Lexicographic.{pointwise};
+ghost use Rattle.std.specs.Prelude.{◌≡◌, ◌⊎◌};
 ghost use Rattle.definitions.specs.Disk.{Content};
-ghost use Rattle.definitions.specs.SwapHeader.{sig_of, image_signature};
 ghost use Rattle.protocol_laws.specs.Rows.{TellsNewFault};
 ghost use Rattle.hib_core.specs.Hibernation.{perhaps_held};
 ghost use Rattle.hib_core.specs.declared.phase.Phase.TheVariants as phase;
@@ -10,12 +8,11 @@ ghost use Rattle.sector_disk.specs.Called.{Called, OneCall};
 use crate::Hib;
 use crate::hib::Stage;
 use frame_arena::Frames;
-use image_format::unmark;
 use machine::Machine;
-use page_core::{Failed, Page};
 use plain_machine::{Held, Left, Reply};
 use sector_disk::Disk;
 use swap_slots::FreeRuns;
+use unmark::{Unmark, UnmarkStep};
 
 /// The number of steps of a settling: a read, a write and a sync.
 const STEPS: u32 = 3;
@@ -23,6 +20,7 @@ const STEPS: u32 = 3;
 // Settling: takes the mark of a held image back while the machine runs (swsusp_unmark, kernel/power/swap.c; that it is
 // a job by itself is own).
 impl Hib {
+    ghost use Rattle.unmark.specs.declared.unmarking.Unmark.{Unmark};
     ghost use Rattle.hib_core.specs.declared.hib.Stage.TheVariants as stage;
     ghost use Rattle.hib_core.specs.declared.hib.Job.TheVariants as job;
     ghost use Rattle.hib_core.specs.Begin.{IsRefusedWith, LeavesFrames};
@@ -53,73 +51,13 @@ impl Hib {
             self.stage = Stage::Idle;
             return Reply::NothingHeld;
         }
-        self.stage = Stage::SettleRead;
+        self.stage = Stage::Settle(Unmark::begin());
         Reply::More { k: 0, of: STEPS }
     }
 
-    /// Reads the header block. If that fails, the machine runs on as before.
-    pub(crate) fn settle_read<D: Disk>(
-        &mut self,
-        machine: &Machine,
-        frames: &Frames,
-        runs: &FreeRuns,
-        disk: &mut D,
-    ) -> Reply
-        requires ready { CanStep machine.now frames.now runs.now self.old }
-        requires blocks { D.block_count disk.old ≡ machine.now.blocks }
-        requires at { self.old.stage ≡ stage.SettleRead }
-        ensures stepped { HasStepped machine.now frames.now self.old machine.now frames.now runs.now self.new result
-            (D.content disk.old) (D.content disk.new) }
-        ensures called { Called D.Disk OneCall (TellsNewFault result) disk.old disk.new }
-    {
-        let block = machine.hw.extents().block(0);
-        let mut header = Page::zero();
-        match disk.read(block as u32, &mut header) {
-            Ok(()) => {
-                self.stage = Stage::SettleWrite(header);
-                Reply::More { k: 1, of: STEPS }
-            }
-            Err(Failed) => {
-                self.stage = Stage::Idle;
-                Reply::ReadFault { left: Left::Same }
-            }
-        }
-    }
-
-    /// Writes the header block with its mark taken back, or unchanged if it carries none.
-    pub(crate) fn settle_write<D: Disk>(
-        &mut self,
-        machine: &mut Machine,
-        frames: &Frames,
-        runs: &FreeRuns,
-        disk: &mut D,
-    ) -> Reply
-        requires ready { CanStep machine.old frames.now runs.now self.old }
-        requires blocks { D.block_count disk.old ≡ machine.old.blocks }
-        requires at { (header : List ℕ) × (self.old.stage ≡ stage.SettleWrite header) }
-        ensures stepped { HasStepped machine.old frames.now self.old machine.new frames.now runs.now self.new result
-            (D.content disk.old) (D.content disk.new) }
-        ensures called { Called D.Disk OneCall (TellsNewFault result) disk.old disk.new }
-    {
-        let Stage::SettleWrite(header) = &mut self.stage else {
-            unreachable!()
-        };
-        let block = machine.hw.extents().block(0);
-        unmark(header);
-        match disk.write(block as u32, header) {
-            Ok(()) => {
-                self.stage = Stage::SettleSync;
-                Reply::More { k: 2, of: STEPS }
-            }
-            Err(Failed) => {
-                self.stop_unsure(machine);
-                Reply::WriteFault { left: Left::Unsure }
-            }
-        }
-    }
-
-    /// Syncs the cleared mark. From here on no image exists, and its slots are free.
-    pub(crate) fn settle_sync<D: Disk>(
+    /// Makes the next call of a settling. If the read fails, the machine runs on as before. After the sync no image
+    /// exists, and its slots are free.
+    pub(crate) fn settle_on<D: Disk>(
         &mut self,
         machine: &mut Machine,
         frames: &mut Frames,
@@ -128,18 +66,32 @@ impl Hib {
     ) -> Reply
         requires ready { CanStep machine.old frames.old runs.old self.old }
         requires blocks { D.block_count disk.old ≡ machine.old.blocks }
-        requires at { self.old.stage ≡ stage.SettleSync }
+        requires at { (unmark : Unmark) × (self.old.stage ≡ stage.Settle unmark) }
         ensures stepped { HasStepped machine.old frames.old self.old machine.new frames.new runs.new self.new result
             (D.content disk.old) (D.content disk.new) }
         ensures called { Called D.Disk OneCall (TellsNewFault result) disk.old disk.new }
     {
-        match disk.sync() {
-            Ok(()) => {
+        let Stage::Settle(unmark) = &mut self.stage else {
+            unreachable!()
+        };
+        let block = machine.hw.extents().block(0);
+        match unmark.step(block as u32, disk) {
+            UnmarkStep::Read => Reply::More { k: 1, of: STEPS },
+            UnmarkStep::Written => Reply::More { k: 2, of: STEPS },
+            UnmarkStep::Synced => {
                 self.give_up(machine, frames, runs);
                 machine.held = Held::No;
                 Reply::Settled
             }
-            Err(Failed) => {
+            UnmarkStep::ReadFault => {
+                self.stage = Stage::Idle;
+                Reply::ReadFault { left: Left::Same }
+            }
+            UnmarkStep::WriteFault => {
+                self.stop_unsure(machine);
+                Reply::WriteFault { left: Left::Unsure }
+            }
+            UnmarkStep::SyncFault => {
                 self.stop_unsure(machine);
                 Reply::SyncFault { left: Left::Unsure }
             }

@@ -1,4 +1,4 @@
-ghost use Rattle.std.specs.Prelude.{◌≡◌, false, ℕ, List};
+ghost use Rattle.std.specs.Prelude.{◌≡◌, false};
 ghost use Rattle.protocol_laws.specs.Rows.{TellsNewFault, is_idle};
 ghost use Rattle.plain_machine.specs.Step.{undone_fault};
 ghost use Rattle.plain_machine.specs.declared.held.Held.TheVariants.{Perhaps};
@@ -8,56 +8,23 @@ ghost use Rattle.sector_disk.specs.Called.{Called, OneCall};
 use crate::Hib;
 use crate::hib::Stage;
 use frame_arena::Frames;
-use image_format::take_back;
 use machine::Machine;
-use page_core::Failed;
 use plain_machine::{Held, Left, Reply, UndoCall};
 use sector_disk::Disk;
 use swap_slots::FreeRuns;
+use unmark::UnmarkStep;
 
 // Undoing a mark whose write or sync failed (swsusp_unmark, kernel/power/swap.c).
 impl Hib {
     ghost use Rattle.plain_machine.specs.declared.reply.UndoCall.{UndoCall};
+    ghost use Rattle.unmark.specs.declared.unmarking.Unmark.{Unmark};
     ghost use Rattle.hib_core.specs.declared.hib.Stage.TheVariants as stage;
     ghost use Rattle.hib_core.specs.Ready.{CanStep};
     ghost use Rattle.hib_core.specs.Stepped.{HasStepped};
 
-    /// Writes the header block with the mark taken back.
-    pub(crate) fn take_back<D: Disk>(
+    /// Makes the next call of an undo. After the sync no image exists, its slots are free, and the machine runs.
+    pub(crate) fn undo_mark<D: Disk>(
         &mut self,
-        machine: &mut Machine,
-        frames: &Frames,
-        runs: &FreeRuns,
-        disk: &mut D,
-    ) -> Reply
-        requires ready { CanStep machine.old frames.now runs.now self.old }
-        requires blocks { D.block_count disk.old ≡ machine.old.blocks }
-        requires at { (call : UndoCall) × (header : List ℕ) × (self.old.stage ≡ stage.TakeBack call header) }
-        ensures stepped { HasStepped machine.old frames.now self.old machine.new frames.now runs.now self.new result
-            (D.content disk.old) (D.content disk.new) }
-        ensures called { Called D.Disk OneCall (TellsNewFault result) disk.old disk.new }
-    {
-        let Stage::TakeBack(call, header) = &self.stage else {
-            unreachable!()
-        };
-        let call = *call;
-        let block = machine.hw.extents().block(0);
-        let back = take_back(header);
-        // The prover knows that a page has 4096 bytes only once it is read.
-        let _ = header.as_bytes();
-        match disk.write(block as u32, &back) {
-            Ok(()) => {
-                self.stage = Stage::EndUndo(call);
-                Reply::Undo { call, k: 1 }
-            }
-            Err(Failed) => self.leave_unsure(machine, call),
-        }
-    }
-
-    /// Syncs the cleared mark. From here on no image exists, its slots are free, and the machine runs.
-    pub(crate) fn end_undo<D: Disk>(
-        &mut self,
-        call: UndoCall,
         machine: &mut Machine,
         frames: &mut Frames,
         runs: &mut FreeRuns,
@@ -65,18 +32,25 @@ impl Hib {
     ) -> Reply
         requires ready { CanStep machine.old frames.old runs.old self.old }
         requires blocks { D.block_count disk.old ≡ machine.old.blocks }
-        requires at { self.old.stage ≡ stage.EndUndo call }
+        requires at { (call : UndoCall) × (unmark : Unmark) × (self.old.stage ≡ stage.Undo call unmark) }
         ensures stepped { HasStepped machine.old frames.old self.old machine.new frames.new runs.new self.new result
             (D.content disk.old) (D.content disk.new) }
         ensures called { Called D.Disk OneCall (TellsNewFault result) disk.old disk.new }
     {
-        match disk.sync() {
-            Ok(()) => {
+        let Stage::Undo(call, unmark) = &mut self.stage else {
+            unreachable!()
+        };
+        let call = *call;
+        let block = machine.hw.extents().block(0);
+        match unmark.step(block as u32, disk) {
+            UnmarkStep::Written => Reply::Undo { call, k: 1 },
+            UnmarkStep::Synced => {
                 self.give_up(machine, frames, runs);
                 machine.held = Held::No;
                 undone(call, Left::Gone)
             }
-            Err(Failed) => self.leave_unsure(machine, call),
+            UnmarkStep::WriteFault | UnmarkStep::SyncFault => self.leave_unsure(machine, call),
+            UnmarkStep::Read | UnmarkStep::ReadFault => unreachable!(),
         }
     }
 

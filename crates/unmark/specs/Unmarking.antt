@@ -37,6 +37,16 @@ call_after step.ReadFault = call.Read
 call_after step.WriteFault = call.Write
 call_after step.SyncFault = call.Sync
 
+-- the header block is known, so the read isn't next
+abbrev pub IsPastRead : UnmarkCall → Type 0
+IsPastRead call.Read = ⊥
+IsPastRead call.Write = ⊤
+IsPastRead call.Sync = ⊤
+
+-- an unmarking of this header block, which begins with the write
+abbrev pub from_write : List ℕ → Unmark
+from_write header = record { header = header; next = call.Write }
+
 -- the call failed
 abbrev pub IsFault : UnmarkStep → Type 0
 IsFault step.Read = ⊥

@@ -43,7 +43,7 @@ pub struct Unmark {
 
 impl Unmark {
     ghost use Rattle.unmark.specs.declared.unmarking.UnmarkCall.TheVariants as call;
-    ghost use Rattle.unmark.specs.Unmarking.{HasUnmarked, IsFault};
+    ghost use Rattle.unmark.specs.Unmarking.{HasUnmarked, IsFault, from_write};
 
     /// Begins with the read of the header block.
     pub fn begin() -> Unmark
@@ -57,7 +57,7 @@ impl Unmark {
 
     /// Begins with the write of a header block that was read already.
     pub fn of(header: Page) -> Unmark
-        ensures { result ≡ record { header = header; next = call.Write } }
+        ensures { result ≡ from_write header }
     {
         Unmark {
             header,

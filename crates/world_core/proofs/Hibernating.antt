@@ -61,11 +61,8 @@ of_hibernation (stage.Sync saving) = refl
 of_hibernation (stage.Read saving) = refl
 of_hibernation (stage.Mark saving header) = refl
 of_hibernation (stage.End saving header) = refl
-of_hibernation (stage.TakeBack call header) = refl
-of_hibernation (stage.EndUndo call) = refl
-of_hibernation stage.SettleRead = refl
-of_hibernation (stage.SettleWrite header) = refl
-of_hibernation stage.SettleSync = refl
+of_hibernation (stage.Undo call unmark) = refl
+of_hibernation (stage.Settle unmark) = refl
 
 never_at : {A : Type 0} (hib : Hib) (x : Activity) → is_of_hibernation x ≡ false → hibernation.activity_of hib ≡ x → A
 never_at hib x not_of e = absurd (false≢true (sym not_of ∙ sym (ap is_of_hibernation e) ∙ of_hibernation hib.stage))
@@ -83,11 +80,8 @@ busy_at (stage.Sync saving) e = tt
 busy_at (stage.Read saving) e = tt
 busy_at (stage.Mark saving header) e = tt
 busy_at (stage.End saving header) e = tt
-busy_at (stage.TakeBack call header) e = tt
-busy_at (stage.EndUndo call) e = tt
-busy_at stage.SettleRead e = tt
-busy_at (stage.SettleWrite header) e = tt
-busy_at stage.SettleSync e = tt
+busy_at (stage.Undo call unmark) e = tt
+busy_at (stage.Settle unmark) e = tt
 
 -- a world that hibernates or settles by a reply has a step to make
 pub busy_told : (hib : Hib) (r : Reply) (core : Core) → core ≡ core_told r → hibernation.phase_of hib ≡ hibernation.phase_told r → core ≡ Hibernating → IsBusy hib
@@ -136,11 +130,8 @@ core_of_stage (stage.Sync saving) = refl
 core_of_stage (stage.Read saving) = refl
 core_of_stage (stage.Mark saving header) = refl
 core_of_stage (stage.End saving header) = refl
-core_of_stage (stage.TakeBack call header) = refl
-core_of_stage (stage.EndUndo call) = refl
-core_of_stage stage.SettleRead = refl
-core_of_stage (stage.SettleWrite header) = refl
-core_of_stage stage.SettleSync = refl
+core_of_stage (stage.Undo call unmark) = refl
+core_of_stage (stage.Settle unmark) = refl
 
 core_by_told : (hib : Hib) (r : Reply) (core : Core) → core ≡ core_told r → hibernation.phase_of hib ≡ hibernation.phase_told r → core ≡ core_at (hibernation.activity_of hib)
 core_by_told hib r core is told = is ∙ sym (ap core_in told) ∙ sym (core_of_stage hib.stage)

@@ -102,11 +102,8 @@ busy_underway (stage.Sync saving) busy = refl
 busy_underway (stage.Read saving) busy = refl
 busy_underway (stage.Mark saving header) busy = refl
 busy_underway (stage.End saving header) busy = refl
-busy_underway (stage.TakeBack call header) busy = refl
-busy_underway (stage.EndUndo call) busy = refl
-busy_underway stage.SettleRead busy = refl
-busy_underway (stage.SettleWrite header) busy = refl
-busy_underway stage.SettleSync busy = refl
+busy_underway (stage.Undo call unmark) busy = refl
+busy_underway (stage.Settle unmark) busy = refl
 
 abbrev is_rest : Activity → Bool
 is_rest rests = true

@@ -19,12 +19,12 @@ pub returns-then-eq-clause-row : goal.returns-then-eq-clause-row
 returns-then-eq-clause-row c = λ k. nothing_held_row c.args.machine.now c.args.frames.now c.args.self.now k (sym c.busy.ensures ∙ c.in_default.is) (is_no c.args.machine.now.held (sym c.eq.ensures ∙ c.if-eq.true))
 
 pub returns-clause-row : goal.returns-clause-row
-returns-clause-row c = λ k. settle_begun_row c.args.machine.now c.args.frames.now c.args.self.now k (sym c.busy.ensures ∙ c.in_default.is) (isn't_no c.args.machine.now.held (sym c.eq.ensures ∙ c.if-eq.false))
+returns-clause-row c = λ k. settle_begun_row c.args.machine.now c.args.frames.now c.args.self.now c.begin.result k (sym c.busy.ensures ∙ c.in_default.is) (isn't_no c.args.machine.now.held (sym c.eq.ensures ∙ c.if-eq.false)) c.begin.ensures
 
 pub returns-clause-ready : goal.returns-clause-ready
 returns-clause-ready c = λ busy.
     let few : c.args.machine.now.blocks < 2 ^ 32 = omega arith in
-    can_settle c.args.machine.now c.args.frames.now c.args.runs.now c.args.self.now c.zones-zones.ensures.hardware few (isn't_no c.args.machine.now.held (sym c.eq.ensures ∙ c.if-eq.false)) c.requires.ready
+    can_settle c.args.machine.now c.args.frames.now c.args.runs.now c.args.self.now c.begin.result c.zones-zones.ensures.hardware few (isn't_no c.args.machine.now.held (sym c.eq.ensures ∙ c.if-eq.false)) c.requires.ready
 
 pub returns-clause-refused : goal.returns-clause-refused
 returns-clause-refused c = λ never. absurd (never 0 3 refl)

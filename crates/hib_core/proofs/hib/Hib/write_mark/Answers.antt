@@ -7,6 +7,7 @@ use Rattle.definitions.specs.SwapHeader.{marked}
 use Rattle.plain_machine.specs.declared.reply.Reply.TheVariants as reply
 use Rattle.plain_machine.specs.declared.reply.UndoCall.TheVariants as undo
 use Rattle.plain_machine.specs.Mark.{mark_flags}
+use Rattle.unmark.specs.Unmarking.{from_write}
 use Rattle.hib_core.specs.declared.hib.Stage.TheVariants as stage
 use Rattle.hib_core.proofs.Facts.{row_of, after_step}
 use Rattle.hib_core.specs.declared.hib.Saving.{Saving}
@@ -60,8 +61,8 @@ returns-in-Err-clause-stepped g c = record {
       let whole' = content_after (g.D.Disk.block_count c.args.disk.now) (g.D.Disk.block_count c.write.new.self) machine.blocks (g.D.Disk.content c.write.new.self) after.0 after.1 c.write.ensures.blocks c.requires.blocks (g.met.D.Disk.well_formed c.write.new.self) in (
         after.0,
         after.1,
-        row_of machine c.args.frames.now hib machine c.args.frames.now (gone_on hib (stage.TakeBack undo.Write (mark_of machine hib c.in-Mark.saving c.in-Mark.header))) c.begin_undo.new.self (reply.Undo undo.Write 0) c.begin_undo.result k after.0
-            (c.begin_undo.ensures.hib ∙ ap (λ (p : List ℕ). gone_on hib (stage.TakeBack undo.Write p)) mark_is) c.begin_undo.ensures.reply
+        row_of machine c.args.frames.now hib machine c.args.frames.now (gone_on hib (stage.Undo undo.Write (from_write (mark_of machine hib c.in-Mark.saving c.in-Mark.header)))) c.begin_undo.new.self (reply.Undo undo.Write 0) c.begin_undo.result k after.0
+            (c.begin_undo.ensures.hib ∙ ap (λ (p : List ℕ). gone_on hib (stage.Undo undo.Write (from_write p))) mark_is) c.begin_undo.ensures.reply
             (mark_failed_row machine c.args.frames.now c.args.runs.now hib c.in-Mark.saving c.in-Mark.header k after.0 c.requires.ready c.in-Mark.is whole whole' fails),
       );
   phase = search rules;
