@@ -28,7 +28,11 @@ use Rattle.machine.specs.Flights.{flights_in}
 use Rattle.machine.specs.Running.{reason_of}
 use Rattle.machine.specs.declared.machine.Machine.{Machine}
 use Rattle.hib_core.specs.WakingRow.{WakingStandsFor, Sleeps, Runs, IsBegun}
-use Rattle.hib_core.specs.Waking.{steps_before, shown_by, asleep_by, running_by, header_at}
+use Rattle.unmark.specs.Unmarking.{calls_before}
+use Rattle.unmark.specs.declared.unmarking.Unmark.{Unmark}
+use Rattle.unmark.specs.declared.unmarking.UnmarkCall.{UnmarkCall}
+use Rattle.unmark.specs.declared.unmarking.UnmarkCall.TheVariants as call
+use Rattle.hib_core.specs.Waking.{steps_before, activity_of, shown_by, asleep_by, running_by, header_at}
 use Rattle.hib_core.specs.declared.waking.waker.Stage.{Stage}
 use Rattle.hib_core.specs.declared.waking.waker.Stage.TheVariants as stage
 use Rattle.hib_core.specs.declared.waking.waker.Waker.{Waker}
@@ -48,17 +52,21 @@ as_left machine frames waker new last machine' left frames' r c c' same kept row
     subst (λ (m : Machine). IsStepRow machine frames waker (new m frames') r c c') (sym same)
     (subst (λ (m : Memory). IsStepRow machine frames waker (new last m) r c c') (sym kept) row)
 
-row_at : (machine : Machine) (frames : Memory) (waker : Waker) (new : rows.StandsBy) (r : Reply) (c c' : disk.Content) (now : Stage) → waker.stage ≡ now →
-    ((i : Image) (held : Held) (a : Running) → WakingStandsFor machine frames waker c (waking i held a (steps_before now)) → (b : State) × rows.StepsTo machine.hw new (event.Step actor.Core) r c c' (waking i held a (steps_before now)) b) →
+-- what a waking is at, by the call that is next
+wakes_by : (waker : Waker) (unmark : Unmark) (next : UnmarkCall) → waker.stage ≡ stage.Wakes unmark → unmark.next ≡ next → activity_of waker ≡ wakes (calls_before next)
+wakes_by waker unmark next at is = ap (λ (t : Stage). wakes (steps_before t)) at ∙ ap (λ (n : UnmarkCall). wakes (calls_before n)) is
+
+row_at : (machine : Machine) (frames : Memory) (waker : Waker) (new : rows.StandsBy) (r : Reply) (c c' : disk.Content) (old : Unmark) (next : UnmarkCall) → waker.stage ≡ stage.Wakes old → old.next ≡ next →
+    ((i : Image) (held : Held) (a : Running) → WakingStandsFor machine frames waker c (waking i held a (calls_before next)) → (b : State) × rows.StepsTo machine.hw new (event.Step actor.Core) r c c' (waking i held a (calls_before next)) b) →
     IsStepRow machine frames waker new r c c'
-row_at machine frames waker new r c c' now at goes s stands =
-    let it = at_waking s (steps_before now) (sym (ap (λ (t : Stage). wakes (steps_before t)) at) ∙ stands.activity) in
+row_at machine frames waker new r c c' old next at from goes s stands =
+    let it = at_waking s (calls_before next) (sym (wakes_by waker old next at from) ∙ stands.activity) in
     subst (λ (t : State). (b : State) × rows.StepsTo machine.hw new (event.Step actor.Core) r c c' t b) (sym it.3)
     (goes it.0 it.1 it.2 (subst (WakingStandsFor machine frames waker c) it.3 stands))
 
 -- Wake.
-pub begun_row : (waker : Waker) → waker.stage ≡ stage.Read → IsBegun waker
-begun_row waker at machine frames c s stands =
+pub begun_row : (waker : Waker) (unmark : Unmark) → waker.stage ≡ stage.Wakes unmark → unmark.next ≡ call.Read → IsBegun waker
+begun_row waker unmark at first machine frames c s stands =
     let it = at_sleep s stands.activity in
     let i : Image = it.0 in
     let held : Held = it.1 in
@@ -67,7 +75,7 @@ begun_row waker at machine frames c s stands =
       waking i held a 0,
       record {
         step = subst (λ (t : State). Step machine.hw (disk.as_it_reads c) t event.Wake (reply.More 0 3) (waking i held a 0)) (sym it.3) (may_wake machine.hw (disk.as_it_reads c) i held a);
-        stands = wake_begins machine.hw (asleep_by machine frames) (shown_by machine frames waker) c i held a here (ap (λ (t : Stage). wakes (steps_before t)) at)
+        stands = wake_begins machine.hw (asleep_by machine frames) (shown_by machine frames waker) c i held a here (wakes_by waker unmark call.Read at first)
             here.parts.behind.memory (names_same machine.hw (asleep_by machine frames) (shown_by machine frames waker) held refl here.parts.names);
         area = same_area machine.hw (disk.as_it_reads c);
         unwritten = λ b not_in. block_same b _;
@@ -77,16 +85,16 @@ begun_row waker at machine frames c s stands =
     )
 
 -- The read.
-pub read_row : (machine : Machine) (frames : Memory) (waker : Waker) (header : List ℕ) (c : disk.Content) → waker.stage ≡ stage.Read → header ≡ header_of machine.hw (disk.as_it_reads c) →
-    IsStepRow machine frames waker (WakingStandsFor machine frames (record waker { stage = stage.Write header })) (reply.More 1 3) c c
-read_row machine frames waker header c at read =
-    let new = record waker { stage = stage.Write header } in
-    row_at machine frames waker (WakingStandsFor machine frames new) (reply.More 1 3) c c stage.Read at
+pub read_row : (machine : Machine) (frames : Memory) (waker : Waker) (old unmark : Unmark) (c : disk.Content) → waker.stage ≡ stage.Wakes old → old.next ≡ call.Read → unmark.next ≡ call.Write → unmark.header ≡ header_of machine.hw (disk.as_it_reads c) →
+    IsStepRow machine frames waker (WakingStandsFor machine frames (record waker { stage = stage.Wakes unmark })) (reply.More 1 3) c c
+read_row machine frames waker old unmark c at from to read =
+    let new = record waker { stage = stage.Wakes unmark } in
+    row_at machine frames waker (WakingStandsFor machine frames new) (reply.More 1 3) c c old call.Read at from
     (λ i held a stands. (
       waking i held a 1,
       record {
         step = may_read machine.hw (disk.as_it_reads c) i held a;
-        stands = wake_reads machine.hw (shown_by machine frames waker) (shown_by machine frames new) c i held a stands read refl
+        stands = wake_reads machine.hw (shown_by machine frames waker) (shown_by machine frames new) c i held a stands read (wakes_by new unmark call.Write refl to)
             stands.parts.behind.memory (names_same machine.hw (shown_by machine frames waker) (shown_by machine frames new) held refl stands.parts.names);
         area = same_area machine.hw (disk.as_it_reads c);
         unwritten = λ b not_in. block_same b _;
@@ -95,9 +103,9 @@ read_row machine frames waker header c at read =
       },
     ))
 
-pub read_failed_row : (machine : Machine) (frames : Memory) (waker : Waker) (c : disk.Content) → waker.stage ≡ stage.Read → IsStepRow machine frames waker (Sleeps machine frames) (reply.ReadFault Same) c c
-read_failed_row machine frames waker c at =
-    row_at machine frames waker (Sleeps machine frames) (reply.ReadFault Same) c c stage.Read at
+pub read_failed_row : (machine : Machine) (frames : Memory) (waker : Waker) (old : Unmark) (c : disk.Content) → waker.stage ≡ stage.Wakes old → old.next ≡ call.Read → IsStepRow machine frames waker (Sleeps machine frames) (reply.ReadFault Same) c c
+read_failed_row machine frames waker old c at from =
+    row_at machine frames waker (Sleeps machine frames) (reply.ReadFault Same) c c old call.Read at from
     (λ i held a stands. (
       asleep i held a,
       record {
@@ -112,17 +120,17 @@ read_failed_row machine frames waker c at =
     ))
 
 -- The write.
-pub write_row : (machine : Machine) (frames : Memory) (waker : Waker) (header : List ℕ) (c c' : disk.Content) → IsOnDisk machine.hw machine.blocks c → waker.stage ≡ stage.Write header → disk.IsContent machine.blocks c' →
-    disk.Writes (block_of_slot machine.hw 0) (unmarked_block header) c c' → IsStepRow machine frames waker (WakingStandsFor machine frames (record waker { stage = stage.Sync })) (reply.More 2 3) c c'
-write_row machine frames waker header c c' over at whole wrote =
-    let new = record waker { stage = stage.Sync } in
+pub write_row : (machine : Machine) (frames : Memory) (waker : Waker) (old unmark : Unmark) (c c' : disk.Content) → IsOnDisk machine.hw machine.blocks c → waker.stage ≡ stage.Wakes old → old.next ≡ call.Write → unmark.next ≡ call.Sync → disk.IsContent machine.blocks c' →
+    disk.Writes (block_of_slot machine.hw 0) (unmarked_block old.header) c c' → IsStepRow machine frames waker (WakingStandsFor machine frames (record waker { stage = stage.Wakes unmark })) (reply.More 2 3) c c'
+write_row machine frames waker old unmark c c' over at from to whole wrote =
+    let new = record waker { stage = stage.Wakes unmark } in
     let writes = subst (λ (p : List ℕ). disk.Writes (block_of_slot machine.hw 0) (unmarked_block p) c c') (sym (ap header_at at)) wrote in
-    row_at machine frames waker (WakingStandsFor machine frames new) (reply.More 2 3) c c' (stage.Write header) at
+    row_at machine frames waker (WakingStandsFor machine frames new) (reply.More 2 3) c c' old call.Write at from
     (λ i held a stands. (
       waking i held a 2,
       record {
         step = may_write machine.hw (disk.as_it_reads c) i held a;
-        stands = wake_writes machine.hw (shown_by machine frames waker) (shown_by machine frames new) c c' machine.blocks i held a over whole stands writes refl
+        stands = wake_writes machine.hw (shown_by machine frames waker) (shown_by machine frames new) c c' machine.blocks i held a over whole stands writes (wakes_by new unmark call.Sync refl to)
             stands.parts.behind.memory (names_same machine.hw (shown_by machine frames waker) (shown_by machine frames new) held refl stands.parts.names);
         area = wake_keeps_area machine.hw (shown_by machine frames waker) c c' machine.blocks i held a over stands (inl writes);
         unwritten = λ b not_in. unwritten_header machine.hw [] b c c' writes.others not_in;
@@ -131,11 +139,11 @@ write_row machine frames waker header c c' over at whole wrote =
       },
     ))
 
-pub write_failed_row : (machine : Machine) (frames : Memory) (waker : Waker) (header : List ℕ) (c c' : disk.Content) → IsOnDisk machine.hw machine.blocks c → waker.stage ≡ stage.Write header → disk.IsContent machine.blocks c' →
-    disk.FailsToWrite (block_of_slot machine.hw 0) (unmarked_block header) c c' → IsStepRow machine frames waker (Sleeps machine frames) (reply.WriteFault Unsure) c c'
-write_failed_row machine frames waker header c c' over at whole failed =
+pub write_failed_row : (machine : Machine) (frames : Memory) (waker : Waker) (old : Unmark) (c c' : disk.Content) → IsOnDisk machine.hw machine.blocks c → waker.stage ≡ stage.Wakes old → old.next ≡ call.Write → disk.IsContent machine.blocks c' →
+    disk.FailsToWrite (block_of_slot machine.hw 0) (unmarked_block old.header) c c' → IsStepRow machine frames waker (Sleeps machine frames) (reply.WriteFault Unsure) c c'
+write_failed_row machine frames waker old c c' over at from whole failed =
     let fails = subst (λ (p : List ℕ). disk.FailsToWrite (block_of_slot machine.hw 0) (unmarked_block p) c c') (sym (ap header_at at)) failed in
-    row_at machine frames waker (Sleeps machine frames) (reply.WriteFault Unsure) c c' (stage.Write header) at
+    row_at machine frames waker (Sleeps machine frames) (reply.WriteFault Unsure) c c' old call.Write at from
     (λ i held a stands. (
       asleep i (perhaps held) a,
       record {
@@ -159,12 +167,12 @@ runs_woken machine frames a memory shows =
     let back = runs_given_back machine.hw machine.held (reason_of machine.area) (flights_in machine.flights) frames a memory shows in
     record { held = tt; unusable = back.unusable; flights = back.flights; same = back.same; fits = back.fits }
 
-pub woken_row : (machine : Machine) (frames : Memory) (waker : Waker) (c c' : disk.Content) → IsMemoryOf machine.hw frames → waker.stage ≡ stage.Sync → disk.IsContent machine.blocks c → disk.Syncs c c' →
+pub woken_row : (machine : Machine) (frames : Memory) (waker : Waker) (old : Unmark) (c c' : disk.Content) → IsMemoryOf machine.hw frames → waker.stage ≡ stage.Wakes old → old.next ≡ call.Sync → disk.IsContent machine.blocks c → disk.Syncs c c' →
     IsStepRow machine frames waker (Runs (woken machine) (seen_frames machine.hw frames)) reply.Woken c c'
-woken_row machine frames waker c c' memory at whole syncs =
+woken_row machine frames waker old c c' memory at from whole syncs =
     let frames' = seen_frames machine.hw frames in
     let names : NamesOnly machine.hw (running_by (woken machine) frames') [] = λ k lt e. absurd (none_left machine.hw frames k memory lt e) in
-    row_at machine frames waker (Runs (woken machine) frames') reply.Woken c c' stage.Sync at
+    row_at machine frames waker (Runs (woken machine) frames') reply.Woken c c' old call.Sync at from
     (λ i held a stands. (
       on (with_held a nothing),
       record {
@@ -178,9 +186,9 @@ woken_row machine frames waker c c' memory at whole syncs =
       },
     ))
 
-pub sync_failed_row : (machine : Machine) (frames : Memory) (waker : Waker) (c : disk.Content) → waker.stage ≡ stage.Sync → IsStepRow machine frames waker (Sleeps machine frames) (reply.SyncFault Unsure) c c
-sync_failed_row machine frames waker c at =
-    row_at machine frames waker (Sleeps machine frames) (reply.SyncFault Unsure) c c stage.Sync at
+pub sync_failed_row : (machine : Machine) (frames : Memory) (waker : Waker) (old : Unmark) (c : disk.Content) → waker.stage ≡ stage.Wakes old → old.next ≡ call.Sync → IsStepRow machine frames waker (Sleeps machine frames) (reply.SyncFault Unsure) c c
+sync_failed_row machine frames waker old c at from =
+    row_at machine frames waker (Sleeps machine frames) (reply.SyncFault Unsure) c c old call.Sync at from
     (λ i held a stands. (
       asleep i (perhaps held) a,
       record {

@@ -8,6 +8,9 @@ use Rattle.plain_machine.specs.declared.reply.Reply.TheVariants as reply
 use Rattle.machine.specs.Flights.{flights_in}
 use Rattle.machine.specs.Running.{reason_of}
 use Rattle.machine.specs.declared.machine.Machine.{Machine}
+use Rattle.unmark.specs.Unmarking.{calls_before, calls_left}
+use Rattle.unmark.specs.declared.unmarking.UnmarkCall.{UnmarkCall}
+use Rattle.unmark.specs.declared.unmarking.UnmarkCall.TheVariants as call
 use Rattle.hib_core.specs.declared.waking.phase.Phase.{Phase}
 use Rattle.hib_core.specs.declared.waking.phase.Phase.TheVariants as phase
 use Rattle.hib_core.specs.declared.waking.waker.Stage.{Stage}
@@ -16,17 +19,13 @@ use Rattle.hib_core.specs.declared.waking.waker.Waker.{Waker}
 
 -- the number of steps made before each stage
 abbrev pub steps_before : Stage → ℕ
-steps_before stage.Read = 0
-steps_before (stage.Write header) = 1
-steps_before stage.Sync = 2
+steps_before (stage.Wakes unmark) = calls_before unmark.next
 steps_before stage.Woken = 3
 steps_before stage.Asleep = 3
 
 -- An upper bound for the steps left: each step leaves fewer, whatever the disk tells.
 abbrev pub waking_steps_left_at : Stage → ℕ
-waking_steps_left_at stage.Read = 3
-waking_steps_left_at (stage.Write header) = 2
-waking_steps_left_at stage.Sync = 1
+waking_steps_left_at (stage.Wakes unmark) = calls_left unmark.next
 waking_steps_left_at stage.Woken = 0
 waking_steps_left_at stage.Asleep = 0
 
@@ -35,7 +34,7 @@ waking_steps_left waker = waking_steps_left_at waker.stage
 
 -- the header block kept between two disk calls, if there is one
 abbrev pub header_at : Stage → List ℕ
-header_at (stage.Write header) = header
+header_at (stage.Wakes unmark) = unmark.header
 header_at _ = []
 
 abbrev pub activity_of : Waker → Activity
@@ -56,11 +55,15 @@ phase_told (reply.More k of) = phase.UnderWay
 phase_told reply.Woken = phase.Runs
 phase_told _ = phase.Asleep
 
--- the possible replies at each stage
+-- the possible replies to each call
+abbrev pub IsReplyTo : UnmarkCall → Reply → Type 0
+IsReplyTo call.Read r = (r ≡ reply.More 1 3) ⊎ (r ≡ reply.ReadFault Same)
+IsReplyTo call.Write r = (r ≡ reply.More 2 3) ⊎ (r ≡ reply.WriteFault Unsure)
+IsReplyTo call.Sync r = (r ≡ reply.Woken) ⊎ (r ≡ reply.SyncFault Unsure)
+
+-- and at each stage
 abbrev pub IsReplyAt : Stage → Reply → Type 0
-IsReplyAt stage.Read r = (r ≡ reply.More 1 3) ⊎ (r ≡ reply.ReadFault Same)
-IsReplyAt (stage.Write header) r = (r ≡ reply.More 2 3) ⊎ (r ≡ reply.WriteFault Unsure)
-IsReplyAt stage.Sync r = (r ≡ reply.Woken) ⊎ (r ≡ reply.SyncFault Unsure)
+IsReplyAt (stage.Wakes unmark) r = IsReplyTo unmark.next r
 IsReplyAt stage.Woken r = ⊥
 IsReplyAt stage.Asleep r = ⊥
 
