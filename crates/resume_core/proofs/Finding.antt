@@ -21,6 +21,7 @@ use Rattle.plain_machine.specs.Machine.{IsHardware}
 use Rattle.protocol_laws.specs.LoadRows.{with_finding}
 use Rattle.machine.specs.declared.machine.Machine.{Machine}
 use Rattle.resume_core.specs.Header.{header_fault}
+use Rattle.unmark.specs.Unmarking.{from_write}
 use Rattle.resume_core.specs.Loading.{shown_by, activity_at, FindsMark}
 use Rattle.resume_core.specs.Row.{ResumeStandsFor, Simulates, KnowsAt, swap_area}
 use Rattle.resume_core.specs.declared.load.Load.{Load}
@@ -99,9 +100,9 @@ compressed_row machine frames load c flags at whole cause =
 
 pub found_row : (machine : Machine) (frames : Memory) (load : Load) (header : List ℕ) (mark : Mark) (c : disk.Content) → IsHardware machine.hw → load.stage ≡ stage.Find → disk.IsContent machine.blocks c →
     header ≡ header_of machine.hw (disk.as_it_reads c) → header_fault header ≡ None → mark ≡ mark_of header →
-    Simulates machine frames load machine frames (record load { stage = stage.TakeBack (record { header = header; mark = mark }) }) (event.Step actor.Core) (reply.Loading 2) c c
+    Simulates machine frames load machine frames (record load { stage = stage.Back (from_write header) mark }) (event.Step actor.Core) (reply.Loading 2) c c
 found_row machine frames load header mark c hardware at whole read none marks =
-    let new = record load { stage = stage.TakeBack (record { header = header; mark = mark }) } in
+    let new = record load { stage = stage.Back (from_write header) mark } in
     let v = disk.as_it_reads c in
     let uncaused : header_cause machine.hw v ≡ None = subst (λ (p : List ℕ). header_fault p ≡ None) read none in
     row_at_load machine frames load machine frames new (event.Step actor.Core) (reply.Loading 2) c c 1 (activity_is load stage.Find at)

@@ -265,8 +265,7 @@ reads_pages machine frames runs load can at = by load.stage can.next at where
   by stage.Runs next at = absurd at
   by stage.Sync next at = absurd at
   by stage.Find next at = absurd at
-  by (stage.TakeBack found) next at = absurd at
-  by (stage.SyncBack found) next at = absurd at
+  by (stage.Back unmark mark) next at = absurd at
   by (stage.List chain) next at = absurd at
 
 -- after a block without a cause the next step can be made, however many pages are counted

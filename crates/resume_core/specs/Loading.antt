@@ -1,5 +1,5 @@
 -- A resume, and what a machine shows during one.
-use Rattle.std.specs.Prelude.{◌≡◌, ℕ, ⊤, false, List, [], Some}
+use Rattle.std.specs.Prelude.{◌≡◌, ℕ, ◌+◌, ⊤, false, List, [], Some}
 use Rattle.std.specs.List.{zip}
 use Rattle.definitions.specs.Disk as disk
 use Rattle.plain_machine.specs.Machine.{Hardware, Memory}
@@ -13,6 +13,7 @@ use Rattle.placement.specs.Waiting.{waiting_pages}
 use Rattle.machine.specs.Flights.{flights_in}
 use Rattle.machine.specs.Running.{reason_of}
 use Rattle.machine.specs.declared.machine.Machine.{Machine}
+use Rattle.unmark.specs.Unmarking.{calls_before}
 use Rattle.resume_core.specs.declared.load.Load.{Load}
 use Rattle.resume_core.specs.declared.load.Stage.{Stage}
 use Rattle.resume_core.specs.declared.load.Stage.TheVariants as stage
@@ -25,8 +26,7 @@ activity_at stage.Rest = rests
 activity_at stage.Runs = runs
 activity_at stage.Sync = loads 0
 activity_at stage.Find = loads 1
-activity_at (stage.TakeBack found) = loads 2
-activity_at (stage.SyncBack found) = loads 3
+activity_at (stage.Back unmark mark) = loads (calls_before unmark.next + 1)
 activity_at (stage.List chain) = loads chain.done
 activity_at (stage.Read chain) = loads chain.done
 
@@ -48,8 +48,7 @@ header_at stage.Rest = []
 header_at stage.Runs = []
 header_at stage.Sync = []
 header_at stage.Find = []
-header_at (stage.TakeBack found) = found.header
-header_at (stage.SyncBack found) = found.header
+header_at (stage.Back unmark mark) = unmark.header
 header_at (stage.List chain) = chain.header
 header_at (stage.Read chain) = chain.header
 

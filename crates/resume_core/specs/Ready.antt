@@ -10,6 +10,7 @@ use Rattle.image_read.specs.Reading.{Reading, IsReady}
 use Rattle.machine.specs.Flights.{flights_in}
 use Rattle.machine.specs.Running.{AreReserved, slot_table_of}
 use Rattle.machine.specs.declared.machine.Machine.{Machine}
+use Rattle.unmark.specs.Unmarking.{IsPastRead}
 use Rattle.resume_core.specs.declared.load.Load.{Load}
 use Rattle.resume_core.specs.declared.load.Stage.{Stage}
 use Rattle.resume_core.specs.declared.load.Stage.TheVariants as stage
@@ -20,15 +21,10 @@ is_busy_at stage.Rest = ⊥
 is_busy_at stage.Runs = ⊥
 is_busy_at _ = ⊤
 
--- the next step writes the header block with the mark taken back
+-- the next step takes the mark back, by a write or a sync
 abbrev pub takes_back_at : Stage → Type 0
-takes_back_at (stage.TakeBack found) = ⊤
+takes_back_at (stage.Back unmark mark) = ⊤
 takes_back_at _ = ⊥
-
--- the next step syncs the cleared mark
-abbrev pub syncs_back_at : Stage → Type 0
-syncs_back_at (stage.SyncBack found) = ⊤
-syncs_back_at _ = ⊥
 
 -- the next step reads a map, the info page or a number page
 abbrev pub lists_at : Stage → Type 0
@@ -72,9 +68,8 @@ CanMake stage.Runs machine frames runs load = RunsOn machine frames runs
 CanMake stage.Rest machine frames runs load = ⊤
 CanMake stage.Sync machine frames runs load = NoneListed load
 CanMake stage.Find machine frames runs load = NoneListed load
-CanMake (stage.TakeBack found) machine frames runs load =
-    (block_of_slot machine.hw 0 < machine.blocks) × NoneListed load
-CanMake (stage.SyncBack found) machine frames runs load = NoneListed load
+CanMake (stage.Back unmark mark) machine frames runs load =
+    IsPastRead unmark.next × (block_of_slot machine.hw 0 < machine.blocks) × NoneListed load
 CanMake (stage.List chain) machine frames runs load =
     CanRead machine.blocks chain.reader load.origs.members load.zeros.members × (4 ≤ chain.done)
 CanMake (stage.Read chain) machine frames runs load =

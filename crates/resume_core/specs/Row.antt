@@ -6,6 +6,7 @@ use Rattle.definitions.specs.Zones.{top}
 use Rattle.definitions.specs.SwapHeader.{taken_back}
 use Rattle.image_format.specs.AreaKind.{mark_of, area_kind}
 use Rattle.image_format.specs.declared.signature.area.Area.{Area}
+use Rattle.image_format.specs.declared.signature.area.Mark.{Mark}
 use Rattle.image_format.specs.declared.signature.area.AreaKind.{AreaKind}
 use Rattle.image_format.specs.declared.signature.area.AreaKind.TheVariants.{Image, Old, Other, BadArea, Swap}
 use Rattle.placement.specs.Waiting.{Awaiting, waiting_pages}
@@ -38,7 +39,6 @@ use Rattle.restore_laws.specs.DataPages.{data_before}
 use Rattle.machine.specs.declared.machine.Machine.{Machine}
 use Rattle.resume_core.specs.Loading.{shown_by}
 use Rattle.resume_core.specs.Restored.{restored_by}
-use Rattle.resume_core.specs.declared.load.FoundHeader.{FoundHeader}
 use Rattle.resume_core.specs.declared.load.Load.{Load}
 use Rattle.resume_core.specs.declared.load.OpenChain.{OpenChain}
 use Rattle.resume_core.specs.declared.load.Stage.{Stage}
@@ -90,17 +90,16 @@ pub record HavePlaces (h : Hardware) (v : disk.DiskImage) (frames : Memory) (wai
 abbrev pub NoneWaits : Load → Type 0
 NoneWaits load = load.waiting.originals ≡ []
 
--- the image was found, and nothing else of it is read yet
-abbrev pub KnowsHeader : Machine → Load → FoundHeader → disk.Content → Resume → ℕ → Type 0
-KnowsHeader machine load found c l k =
-    (v : disk.DiskImage) × HasFound machine found.header c l v × HaveGoneOn machine.hw l v k × (load.origs.members ≡ [])
+-- the image was found by this header block and its mark, and nothing else of it is read yet
+abbrev pub KnowsHeader : Machine → Load → List ℕ → Mark → disk.Content → Resume → ℕ → Type 0
+KnowsHeader machine load header mark c l k =
+    (v : disk.DiskImage) × HasFound machine header c l v × HaveGoneOn machine.hw l v k × (load.origs.members ≡ [])
     × (load.zeros.members ≡ []) × NoneWaits load
-    × (found.mark ≡ mark_of (header_of machine.hw v))
+    × (mark ≡ mark_of (header_of machine.hw v))
 
 -- what is known at each stage: what was found, and how far it is read
 abbrev pub KnowsAt : Stage → Machine → Memory → Load → disk.Content → Resume → ℕ → Type 0
-KnowsAt (stage.TakeBack found) machine frames load c l k = KnowsHeader machine load found c l k
-KnowsAt (stage.SyncBack found) machine frames load c l k = KnowsHeader machine load found c l k
+KnowsAt (stage.Back unmark mark) machine frames load c l k = KnowsHeader machine load unmark.header mark c l k
 KnowsAt (stage.List chain) machine frames load c l k =
     (v : disk.DiskImage) × HasFound machine chain.header c l v × HaveGoneOn machine.hw l v k
     × (k < 4 + place_count (info_in machine.hw v).pages)

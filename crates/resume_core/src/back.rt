@@ -12,21 +12,23 @@ ghost use Rattle.sector_disk.specs.Called.{Called, AtMostOneCall};
 use crate::Load;
 use crate::load::{OpenChain, Stage};
 use frame_arena::Frames;
-use image_format::{Mark, SF_HW_SIG, SF_SKIPS_ZEROS, take_back};
+use image_format::{Mark, SF_HW_SIG, SF_SKIPS_ZEROS};
 use image_read::Reader;
 use machine::{Hardware, Machine};
-use page_core::{Failed, Format};
+use page_core::Format;
 use plain_machine::{Left, Reply};
 use sector_disk::Disk;
 use std::mem::replace;
 use swap_slots::FreeRuns;
+use unmark::UnmarkStep;
 
 // Taking the mark back, before anything else of the image is read (swsusp_check, kernel/power/swap.c).
 impl Load {
-    ghost use Rattle.resume_core.specs.Ready.{CanStep, takes_back_at, syncs_back_at};
+    ghost use Rattle.resume_core.specs.Ready.{CanStep, takes_back_at};
     ghost use Rattle.resume_core.specs.Stepped.{HasStepped};
 
-    /// Writes the header block with the mark taken back.
+    /// Makes the next call that takes the mark back. After the sync no image exists, and the chain is opened, which must
+    /// begin in the area.
     pub(crate) fn take_back<D: Disk>(
         &mut self,
         machine: &Machine,
@@ -41,45 +43,19 @@ impl Load {
             (D.content disk.old) (D.content disk.new) }
         ensures called { Called D.Disk AtMostOneCall (TellsNewFault result) disk.old disk.new }
     {
-        match replace(&mut self.stage, Stage::Rest) {
-            Stage::TakeBack(found) => {
-                let block = machine.hw.extents().block(0);
-                match disk.write(block as u32, &take_back(&found.header)) {
-                    Ok(()) => {
-                        self.stage = Stage::SyncBack(found);
-                        Reply::Loading { k: 3 }
-                    }
-                    Err(Failed) => self.stop(Reply::WriteFault { left: Left::Unsure }),
-                }
-            }
-            _ => unreachable!(),
-        }
-    }
-
-    /// Syncs the cleared mark. From here on no image exists. Then opens the chain, which must begin in the area.
-    pub(crate) fn sync_back<D: Disk>(
-        &mut self,
-        machine: &Machine,
-        frames: &Frames,
-        runs: &FreeRuns,
-        disk: &mut D,
-    ) -> Reply
-        requires ready { CanStep machine.now frames.now runs.now self.old }
-        requires blocks { D.block_count disk.old ≡ machine.now.blocks }
-        requires stage { syncs_back_at self.old.stage }
-        ensures stepped { HasStepped machine.now frames.now self.old machine.now frames.now runs.now self.new result
-            (D.content disk.old) (D.content disk.new) }
-        ensures called { Called D.Disk AtMostOneCall (TellsNewFault result) disk.old disk.new }
-    {
-        match disk.sync() {
-            Ok(()) => {}
-            Err(Failed) => return self.stop(Reply::SyncFault { left: Left::Unsure }),
-        }
-        match replace(&mut self.stage, Stage::Rest) {
-            Stage::SyncBack(found) => match reader_of(&machine.hw, machine.blocks, &found.mark) {
+        let Stage::Back(unmark, mark) = &mut self.stage else {
+            unreachable!()
+        };
+        let block = machine.hw.extents().block(0);
+        match unmark.step(block as u32, disk) {
+            UnmarkStep::Written => Reply::Loading { k: 3 },
+            UnmarkStep::Synced => match reader_of(&machine.hw, machine.blocks, mark) {
                 Ok(reader) => {
+                    let Stage::Back(unmark, _) = replace(&mut self.stage, Stage::Rest) else {
+                        unreachable!()
+                    };
                     self.stage = Stage::List(OpenChain {
-                        header: found.header,
+                        header: unmark.into_header(),
                         reader,
                         done: 4,
                     });
@@ -87,7 +63,9 @@ impl Load {
                 }
                 Err(why) => self.stop(why),
             },
-            _ => unreachable!(),
+            UnmarkStep::WriteFault => self.stop(Reply::WriteFault { left: Left::Unsure }),
+            UnmarkStep::SyncFault => self.stop(Reply::SyncFault { left: Left::Unsure }),
+            UnmarkStep::Read | UnmarkStep::ReadFault => unreachable!(),
         }
     }
 }

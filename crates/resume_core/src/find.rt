@@ -9,7 +9,7 @@ ghost use Rattle.protocol_laws.specs.Rows.{TellsNewFault, is_idle};
 ghost use Rattle.sector_disk.specs.Called.{Called, AtMostOneCall};
 
 use crate::Load;
-use crate::load::{FoundHeader, Stage};
+use crate::load::Stage;
 use frame_arena::Frames;
 use image_format::{AreaKind, Mark, SF_NOCOMPRESS_MODE};
 use machine::Machine;
@@ -17,6 +17,7 @@ use page_core::{Failed, Page};
 use plain_machine::{Left, Reply};
 use sector_disk::Disk;
 use swap_slots::FreeRuns;
+use unmark::Unmark;
 
 // The sync, and the read of the header block (swsusp_check, kernel/power/swap.c).
 impl Load {
@@ -77,7 +78,7 @@ impl Load {
         }
         match found(&header) {
             Ok(mark) => {
-                self.stage = Stage::TakeBack(FoundHeader { header, mark });
+                self.stage = Stage::Back(Unmark::of(header), mark);
                 Reply::Loading { k: 2 }
             }
             Err(why) => self.stop(why),

@@ -16,13 +16,7 @@ use plain_machine::{IdentCheck, Loader, Reply};
 use sector_disk::Disk;
 use std::alloc::Global;
 use swap_slots::FreeRuns;
-
-/// The header block as it was found, and what its mark says.
-#[derive(Drop)]
-pub(crate) struct FoundHeader {
-    pub(crate) header: Page,
-    pub(crate) mark: Mark,
-}
+use unmark::Unmark;
 
 /// An image whose chain is read.
 #[derive(Drop)]
@@ -45,10 +39,9 @@ pub(crate) enum Stage {
     Sync,
     /// The read of the header block.
     Find,
-    /// The write of the header block with the mark taken back.
-    TakeBack(FoundHeader),
-    /// The sync of the cleared mark. From here on no image exists.
-    SyncBack(FoundHeader),
+    /// A call that takes the mark back, which says this: the write of the header block that was found, or the sync after
+    /// it. No image exists from then on.
+    Back(Unmark, Mark),
     /// The read of a map, the info page or a number page.
     List(OpenChain),
     /// The read of a map or a saved page.
@@ -97,12 +90,8 @@ impl Load {
         match &self.stage {
             Stage::Rest => Phase::Off,
             Stage::Runs => Phase::Runs,
-            Stage::Sync
-            | Stage::Find
-            | Stage::TakeBack(_)
-            | Stage::SyncBack(_)
-            | Stage::List(_)
-            | Stage::Read(_) => Phase::UnderWay,
+            Stage::Sync | Stage::Find | Stage::Back(..) | Stage::List(_) | Stage::Read(_) =>
+                Phase::UnderWay,
         }
     }
 
@@ -126,8 +115,7 @@ impl Load {
         match &self.stage {
             Stage::Sync => self.sync_first(machine, frames, runs, disk),
             Stage::Find => self.find(machine, frames, runs, disk),
-            Stage::TakeBack(_) => self.take_back(machine, frames, runs, disk),
-            Stage::SyncBack(_) => self.sync_back(machine, frames, runs, disk),
+            Stage::Back(..) => self.take_back(machine, frames, runs, disk),
             Stage::List(_) => self.list_next(machine, frames, runs, disk),
             Stage::Read(_) => self.read_next(machine, frames, runs, disk),
             Stage::Rest | Stage::Runs => unreachable!(),

@@ -137,8 +137,7 @@ no_tables_at stage.Rest has = absurd (false≢true has)
 no_tables_at stage.Runs has = absurd has
 no_tables_at stage.Sync has = absurd has
 no_tables_at stage.Find has = absurd has
-no_tables_at (stage.TakeBack found) has = absurd has
-no_tables_at (stage.SyncBack found) has = absurd has
+no_tables_at (stage.Back unmark mark) has = absurd has
 no_tables_at (stage.List chain) has = absurd has
 no_tables_at (stage.Read chain) has = absurd has
 

@@ -50,8 +50,7 @@ of_resume stage.Rest = refl
 of_resume stage.Runs = refl
 of_resume stage.Sync = refl
 of_resume stage.Find = refl
-of_resume (stage.TakeBack found) = refl
-of_resume (stage.SyncBack found) = refl
+of_resume (stage.Back unmark mark) = refl
 of_resume (stage.List chain) = refl
 of_resume (stage.Read chain) = refl
 
@@ -75,8 +74,7 @@ busy_at stage.Rest e = absurd (false≢true (ap is_loading e))
 busy_at stage.Runs e = absurd (false≢true (ap is_loading e))
 busy_at stage.Sync e = tt
 busy_at stage.Find e = tt
-busy_at (stage.TakeBack found) e = tt
-busy_at (stage.SyncBack found) e = tt
+busy_at (stage.Back unmark mark) e = tt
 busy_at (stage.List chain) e = tt
 busy_at (stage.Read chain) e = tt
 
@@ -85,8 +83,7 @@ runs_at stage.Rest e = absurd (false≢true (ap is_running e))
 runs_at stage.Runs e = refl
 runs_at stage.Sync e = absurd (false≢true (ap is_running e))
 runs_at stage.Find e = absurd (false≢true (ap is_running e))
-runs_at (stage.TakeBack found) e = absurd (false≢true (ap is_running e))
-runs_at (stage.SyncBack found) e = absurd (false≢true (ap is_running e))
+runs_at (stage.Back unmark mark) e = absurd (false≢true (ap is_running e))
 runs_at (stage.List chain) e = absurd (false≢true (ap is_running e))
 runs_at (stage.Read chain) e = absurd (false≢true (ap is_running e))
 
@@ -95,8 +92,7 @@ never_hibernates stage.Rest e = false≢true (ap is_hibernating e)
 never_hibernates stage.Runs e = false≢true (ap is_hibernating e)
 never_hibernates stage.Sync e = false≢true (ap is_hibernating e)
 never_hibernates stage.Find e = false≢true (ap is_hibernating e)
-never_hibernates (stage.TakeBack found) e = false≢true (ap is_hibernating e)
-never_hibernates (stage.SyncBack found) e = false≢true (ap is_hibernating e)
+never_hibernates (stage.Back unmark mark) e = false≢true (ap is_hibernating e)
 never_hibernates (stage.List chain) e = false≢true (ap is_hibernating e)
 never_hibernates (stage.Read chain) e = false≢true (ap is_hibernating e)
 
@@ -105,8 +101,7 @@ never_sleeps stage.Rest down = down
 never_sleeps stage.Runs down = down
 never_sleeps stage.Sync down = down
 never_sleeps stage.Find down = down
-never_sleeps (stage.TakeBack found) down = down
-never_sleeps (stage.SyncBack found) down = down
+never_sleeps (stage.Back unmark mark) down = down
 never_sleeps (stage.List chain) down = down
 never_sleeps (stage.Read chain) down = down
 
@@ -122,8 +117,7 @@ core_of_stage stage.Rest = refl
 core_of_stage stage.Runs = refl
 core_of_stage stage.Sync = refl
 core_of_stage stage.Find = refl
-core_of_stage (stage.TakeBack found) = refl
-core_of_stage (stage.SyncBack found) = refl
+core_of_stage (stage.Back unmark mark) = refl
 core_of_stage (stage.List chain) = refl
 core_of_stage (stage.Read chain) = refl
 

@@ -118,8 +118,7 @@ load_underway load_stage.Rest busy = absurd busy
 load_underway load_stage.Runs busy = absurd busy
 load_underway load_stage.Sync busy = refl
 load_underway load_stage.Find busy = refl
-load_underway (load_stage.TakeBack found) busy = refl
-load_underway (load_stage.SyncBack found) busy = refl
+load_underway (load_stage.Back unmark mark) busy = refl
 load_underway (load_stage.List chain) busy = refl
 load_underway (load_stage.Read chain) busy = refl
 

@@ -5,6 +5,8 @@ use Rattle.plain_machine.specs.Machine.{block_of_slot}
 use Rattle.plain_machine.specs.Chain.{header_of}
 use Rattle.plain_machine.specs.declared.reply.Reply.TheVariants as reply
 use Rattle.plain_machine.specs.declared.reply.Left.TheVariants.{Same}
+use Rattle.unmark.specs.declared.unmarking.Unmark.{Unmark}
+use Rattle.resume_core.specs.declared.load.Stage.TheVariants as stage
 use Rattle.resume_core.proofs.Facts.{row_of, count_of}
 use Rattle.resume_core.proofs.Headers.{none_beyond, read_below}
 use Rattle.resume_core.proofs.Finding.{none_row, find_failed_row, found_row, fault_row, none_found, image_found, fault_found}
@@ -64,8 +66,10 @@ returns-in-Ok-found-clause-stepped g c = record {
       ∙ ap (λ (b : ℕ). disk.block (disk.as_it_reads k) b) at ∙ read_below c.args.machine.now.hw (disk.as_it_reads k) c.args.machine.now.blocks count lt in (
         k,
         c.read.ensures.content ∙ told,
-        found_row c.args.machine.now c.args.frames.now c.args.self.now c.read.new.into c.in-Ok-found.mark k c.requires.ready.over.hardware c.requires.stage whole
-            read c.in-Ok-found.ensures.found.0 c.in-Ok-found.ensures.found.1,
+        row_of c.args.machine.now c.args.frames.now c.args.self.now c.args.machine.now c.args.frames.now _ _ (reply.Loading 2) (reply.Loading 2) k k
+            (ap (λ (u : Unmark). record c.args.self.now { stage = stage.Back u c.in-Ok-found.mark }) c.of.ensures) refl
+            (found_row c.args.machine.now c.args.frames.now c.args.self.now c.read.new.into c.in-Ok-found.mark k c.requires.ready.over.hardware c.requires.stage whole
+            read c.in-Ok-found.ensures.found.0 c.in-Ok-found.ensures.found.1),
       );
   activity = search rules;
   loader = search rules;
