@@ -11,4 +11,5 @@ pub mod Listing
 pub mod OwnImage
 pub mod Placing
 mod Putting
+pub mod StepsLeft
 pub mod TakingBack

@@ -2,9 +2,6 @@
 use Rattle.std.proofs.Common.{◌≡◌, ◌<◌, ◌≤◌, ℕ, refl, sym, ap, ◌∙◌, subst, arith}
 use Rattle.plain_machine.specs.declared.reply.Reply.{Reply}
 use Rattle.plain_machine.specs.declared.reply.Reply.TheVariants as reply
-use Rattle.unmark.specs.Unmarking.{calls_left}
-use Rattle.unmark.specs.declared.unmarking.UnmarkCall.{UnmarkCall}
-use Rattle.unmark.specs.declared.unmarking.UnmarkCall.TheVariants as call
 use Rattle.hib_core.specs.Hibernation as hibernation
 use Rattle.hib_core.specs.declared.phase.Phase.{Phase}
 use Rattle.hib_core.specs.declared.phase.Phase.TheVariants as phase
@@ -58,17 +55,3 @@ left_at (stage.Read chain) hib load waker at = ap loading_steps_left_at at
 
 pub loading_left : (r : Reply) (core : Core) (hib : Hib) (load : Load) (waker : Waker) → IsAfter load r core → steps_left_in core hib load waker ≡ loading_steps_left load
 loading_left r core hib load waker after = ap (λ (k : Core). steps_left_in k hib load waker) (core_now load r core after) ∙ left_at load.stage hib load waker refl
-
-few_calls : (next : UnmarkCall) → calls_left next ≤ 3
-few_calls call.Read = omega arith
-few_calls call.Write = omega arith
-few_calls call.Sync = omega arith
-
-pub loading_few : (s : Stage) → loading_steps_left_at s ≤ 65800
-loading_few stage.Rest = omega arith
-loading_few stage.Runs = omega arith
-loading_few stage.Sync = omega arith
-loading_few stage.Find = omega arith
-loading_few (stage.Back unmark mark) = let few = few_calls unmark.next in omega arith
-loading_few (stage.List chain) = omega arith
-loading_few (stage.Read chain) = omega arith

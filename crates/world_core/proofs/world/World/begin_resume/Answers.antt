@@ -7,7 +7,8 @@ use Rattle.world_core.specs.StandsFor.{core_loading, is_off, keeps_dump}
 use Rattle.machine.specs.declared.machine.Machine.{Machine}
 use Rattle.world_core.proofs.Readiness.{can_run-resumed, no_tables_after}
 use Rattle.world_core.proofs.Resuming.{IsAfter, row_of_begin, awake_after, busy_after, idle_after, runs_after}
-use Rattle.world_core.proofs.StepsLeft.{loading_few, loading_left}
+use Rattle.resume_core.proofs.StepsLeft.{loading_few}
+use Rattle.world_core.proofs.StepsLeft.{loading_left}
 use Rattle.world_core.proofs.world.World.begin_resume.Goals as goal
 
 pub invariant_of-self : goal.invariant_of-self
