@@ -40,9 +40,8 @@ impl Hib {
         ensures no_fault { TellsNewFault result → ⊥ }
         ensures refused { IsRefusedWith result → LeavesFrames frames.now frames.now result }
     {
-        // The prover knows the bounds of a field's type only once the field is read.
-        let _blocks = machine.blocks;
-        let _zones = machine.hw.zones();
+        machine.blocks_fit();
+        machine.hw.is_hardware();
         if let Some(task) = machine.busy() {
             self.stage = Stage::Idle;
             return Reply::Busy { task };

@@ -14,9 +14,7 @@ use crate::Load;
 use crate::load::Stage;
 use frame_arena::Frames;
 use image_format::{Area, AreaKind, take_back};
-use machine::{
-    Flight, Hardware, Machine, has_bad_slots, slot_table, tables_fit, usable,
-};
+use machine::{Flight, Hardware, Machine, has_bad_slots, slot_table, tables_fit, usable};
 use page_core::Page;
 use plain_machine::{Held, Loader, Reply};
 use swap_slots::FreeRuns;

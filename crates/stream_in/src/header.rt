@@ -95,7 +95,7 @@ fn write_mark<D: Disk>(disk: &mut D, marked: &Page) -> Result<(), InStop>
         ElapsesTrying marked.now u (D.moment disk.old) (D.moment disk.new) (D.left_since disk.old)
         (D.left_since disk.new) }
 {
-    let _ = marked.as_bytes();
+    marked.is_page();
     match disk.write(0, marked) {
         Ok(()) => {}
         Err(Failed) => return Err(InStop::WriteFault(undo(disk, marked))),
@@ -122,7 +122,7 @@ fn undo<D: Disk>(disk: &mut D, marked: &Page) -> Left
         (D.left_since disk.new) }
 {
     let back = take_back(marked);
-    let _ = back.as_bytes();
+    back.is_page();
     match disk.write(0, &back) {
         Ok(()) => {}
         Err(Failed) => return Left::Unsure,

@@ -165,7 +165,7 @@ fn put_page<D: Disk>(
     ensures called { HasCalled D.Disk (AtMost 3) (result ≡ WriteStep.Fault) disk.old disk.new }
     ensures first_call { writer.old.written ≡ 0 → 3 ≤ writer.old.info.pages → D.calls disk.new ≤ D.calls disk.old + 1 }
 {
-    let _ = page.as_bytes();
+    page.is_page();
     let step = writer.put(&mut memory.frames, &mut memory.runs, disk, page);
     if !map_follows(step) {
         return step;

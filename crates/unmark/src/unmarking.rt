@@ -78,8 +78,7 @@ impl Unmark {
         ensures unmarked { HasUnmarked block self.old self.new result (D.content disk.old) (D.content disk.new) }
         ensures called { Called D.Disk OneCall (IsFault result) disk.old disk.new }
     {
-        // The prover knows that a page has 4096 bytes only once it is read.
-        let _ = self.header.as_bytes();
+        self.header.is_page();
         match self.next {
             UnmarkCall::Read => match disk.read(block, &mut self.header) {
                 Ok(()) => {

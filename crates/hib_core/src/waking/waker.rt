@@ -65,8 +65,7 @@ impl Waker {
         ensures stepped { HasStepped machine.now self.old self.new result (D.content disk.old) (D.content disk.new) }
         ensures called { Called D.Disk OneCall (TellsNewFault result) disk.old disk.new }
     {
-        // The prover knows the bounds of a field's type only once the field is read.
-        let _blocks = machine.blocks;
+        machine.blocks_fit();
         let Stage::Wakes(unmark) = &mut self.stage else {
             unreachable!()
         };

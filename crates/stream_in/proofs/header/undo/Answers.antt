@@ -8,7 +8,7 @@ pub returns-in-Ok-sync-clause-gone : goal.returns-in-Ok-sync-clause-gone
 returns-in-Ok-sync-clause-gone g c = λ is.
     told_header (g.D.Disk.block_count c.args.disk.now) c.take_back-back.result (taken_back c.args.marked.now)
     (g.D.Disk.content c.args.disk.now) (g.D.Disk.content c.write.new.self) (g.D.Disk.content c.sync.new.self)
-    (g.met.D.Disk.well_formed c.args.disk.now) c.requires c.as_bytes.ensures.page c.take_back-back.ensures c.in-Ok.ensures.written c.in-Ok-sync.ensures.synced
+    (g.met.D.Disk.well_formed c.args.disk.now) c.requires c.is_page.ensures.page c.take_back-back.ensures c.in-Ok.ensures.written c.in-Ok-sync.ensures.synced
 
 -- Moments.
 

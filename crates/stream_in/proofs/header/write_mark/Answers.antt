@@ -17,7 +17,7 @@ pub returns-in-Ok-sync-clause-marked : goal.returns-in-Ok-sync-clause-marked
 returns-in-Ok-sync-clause-marked g c =
     told_header (g.D.Disk.block_count c.args.disk.now) c.args.marked.now c.args.marked.now
     (g.D.Disk.content c.args.disk.now) (g.D.Disk.content c.write.new.self) (g.D.Disk.content c.sync.new.self)
-    (g.met.D.Disk.well_formed c.args.disk.now) c.requires c.as_bytes.ensures.page refl c.in-Ok.ensures.written c.in-Ok-sync.ensures.synced
+    (g.met.D.Disk.well_formed c.args.disk.now) c.requires c.is_page.ensures.page refl c.in-Ok.ensures.written c.in-Ok-sync.ensures.synced
 
 pub returns-in-Err-sync-clause-leaves : goal.returns-in-Err-sync-clause-leaves
 returns-in-Err-sync-clause-leaves g c =

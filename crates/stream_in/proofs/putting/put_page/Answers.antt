@@ -121,7 +121,7 @@ returns-then-not-map_follows-clause-done g c = λ free pages h of below is ok.
     let a = g.D.Disk.content c.args.disk.now in
     let b = g.D.Disk.content c.put-step.new.disk in
     more_same w0.extents w0.extents free w0.info.pages w0.info.pages pages w0.written w0.written c.put-step.new.self.written (w0.written + 1) a b refl refl refl (sym (e1.writer.made ok))
-    (put_done free c.args.memory.now.frames w0 c.args.page.now pages (g.D.Disk.block_count c.args.disk.now) a b h of c.as_bytes.ensures.page below (g.met.D.Disk.well_formed c.args.disk.now) (inr is) (e1.page.written free h ok))
+    (put_done free c.args.memory.now.frames w0 c.args.page.now pages (g.D.Disk.block_count c.args.disk.now) a b h of c.is_page.ensures.page below (g.met.D.Disk.well_formed c.args.disk.now) (inr is) (e1.page.written free h ok))
 
 pub returns-then-not-map_follows-2-clause-done : goal.returns-then-not-map_follows-2-clause-done
 returns-then-not-map_follows-2-clause-done g c = λ free pages h of below is ok.
@@ -136,10 +136,10 @@ returns-then-not-map_follows-2-clause-done g c = λ free pages h of below is ok.
     record { answer = e1.answer; image = e1.writer.image; made = e1.writer.made; writing = e1.writer.writing free h } in
     let map1 : is_map_next c.put-step.result ≡ true = sym c.map_follows.ensures ∙ c.if-not-map_follows.false in
     let one = followed free c.put-step.new.frames w0 w1 c.put-step.result p1 map1 in
-    let d1 = put_done free c.args.memory.now.frames w0 c.args.page.now pages (g.D.Disk.block_count c.args.disk.now) a b h of c.as_bytes.ensures.page below (g.met.D.Disk.well_formed c.args.disk.now) (inr is)
+    let d1 = put_done free c.args.memory.now.frames w0 c.args.page.now pages (g.D.Disk.block_count c.args.disk.now) a b h of c.is_page.ensures.page below (g.met.D.Disk.well_formed c.args.disk.now) (inr is)
     (e1.page.written free h (not_fault c.put-step.result map1)) in
     let s1 = behind_put free w0 w1 (g.D.Disk.block_count c.args.disk.now) (g.D.Disk.block_count c.put-step.new.disk) one e1.called.blocks of below in
-    let d2 = put_done free c.put-step.new.frames w1 c.args.page.now pages (g.D.Disk.block_count c.put-step.new.disk) b d one.writing s1.of c.as_bytes.ensures.page s1.below (g.met.D.Disk.well_formed c.put-step.new.disk) (inl s1.map) (e2.page.written free one.writing ok) in
+    let d2 = put_done free c.put-step.new.frames w1 c.args.page.now pages (g.D.Disk.block_count c.put-step.new.disk) b d one.writing s1.of c.is_page.ensures.page s1.below (g.met.D.Disk.well_formed c.put-step.new.disk) (inl s1.map) (e2.page.written free one.writing ok) in
     more_then w0.extents free w0.info.pages pages w0.written (w0.written + 1) c.put-step-2.new.self.written a b d d1
     (more_same w0.extents w1.extents free w0.info.pages w1.info.pages pages (w0.written + 1) w1.written c.put-step-2.new.self.written (w1.written + 1) b d
     e1.writer.image.extents (ap (λ i. i.pages) e1.writer.image.info) one.written (sym (e2.writer.made ok)) d2)
@@ -164,13 +164,13 @@ returns-clause-done g c = λ free pages h of below is ok.
     record { answer = e2.answer; image = e2.writer.image; made = e2.writer.made; writing = e2.writer.writing free one.writing } in
     let map2 : is_map_next c.put-step-2.result ≡ true = sym c.map_follows-2.ensures ∙ c.if-not-map_follows-2.false in
     let two = followed free c.put-step-2.new.frames w1 w2 c.put-step-2.result p2 map2 in
-    let d1 = put_done free c.args.memory.now.frames w0 c.args.page.now pages (g.D.Disk.block_count c.args.disk.now) a b h of c.as_bytes.ensures.page below (g.met.D.Disk.well_formed c.args.disk.now) (inr is)
+    let d1 = put_done free c.args.memory.now.frames w0 c.args.page.now pages (g.D.Disk.block_count c.args.disk.now) a b h of c.is_page.ensures.page below (g.met.D.Disk.well_formed c.args.disk.now) (inr is)
     (e1.page.written free h (not_fault c.put-step.result map1)) in
     let s1 = behind_put free w0 w1 (g.D.Disk.block_count c.args.disk.now) (g.D.Disk.block_count c.put-step.new.disk) one e1.called.blocks of below in
-    let d2 = put_done free c.put-step.new.frames w1 c.args.page.now pages (g.D.Disk.block_count c.put-step.new.disk) b d one.writing s1.of c.as_bytes.ensures.page s1.below (g.met.D.Disk.well_formed c.put-step.new.disk) (inl s1.map)
+    let d2 = put_done free c.put-step.new.frames w1 c.args.page.now pages (g.D.Disk.block_count c.put-step.new.disk) b d one.writing s1.of c.is_page.ensures.page s1.below (g.met.D.Disk.well_formed c.put-step.new.disk) (inl s1.map)
     (e2.page.written free one.writing (not_fault c.put-step-2.result map2)) in
     let s2 = behind_put free w1 w2 (g.D.Disk.block_count c.put-step.new.disk) (g.D.Disk.block_count c.put-step-2.new.disk) two e2.called.blocks s1.of s1.below in
-    let d3 = put_done free c.put-step-2.new.frames w2 c.args.page.now pages (g.D.Disk.block_count c.put-step-2.new.disk) d f two.writing s2.of c.as_bytes.ensures.page s2.below (g.met.D.Disk.well_formed c.put-step-2.new.disk) (inl s2.map) (e3.page.written free two.writing ok) in
+    let d3 = put_done free c.put-step-2.new.frames w2 c.args.page.now pages (g.D.Disk.block_count c.put-step-2.new.disk) d f two.writing s2.of c.is_page.ensures.page s2.below (g.met.D.Disk.well_formed c.put-step-2.new.disk) (inl s2.map) (e3.page.written free two.writing ok) in
     more_then w0.extents free w0.info.pages pages w0.written (w0.written + 1) c.put.new.self.written a b f d1
     (more_same w0.extents w1.extents free w0.info.pages w1.info.pages pages (w0.written + 1) w1.written c.put.new.self.written c.put.new.self.written b f
     e1.writer.image.extents (ap (λ i. i.pages) e1.writer.image.info) one.written refl

@@ -24,7 +24,7 @@ returns-clause-row c = λ k. settle_begun_row c.args.machine.now c.args.frames.n
 pub returns-clause-ready : goal.returns-clause-ready
 returns-clause-ready c = λ busy.
     let few : c.args.machine.now.blocks < 2 ^ 32 = omega arith in
-    can_settle c.args.machine.now c.args.frames.now c.args.runs.now c.args.self.now c.begin.result c.zones-zones.ensures.hardware few (isn't_no c.args.machine.now.held (sym c.eq.ensures ∙ c.if-eq.false)) c.requires.ready
+    can_settle c.args.machine.now c.args.frames.now c.args.runs.now c.args.self.now c.begin.result c.is_hardware.ensures.hardware few (isn't_no c.args.machine.now.held (sym c.eq.ensures ∙ c.if-eq.false)) c.requires.ready
 
 pub returns-clause-refused : goal.returns-clause-refused
 returns-clause-refused c = λ never. absurd (never 0 3 refl)

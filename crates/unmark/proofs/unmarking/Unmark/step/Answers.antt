@@ -7,7 +7,7 @@ returns-in-Ok-clause-unmarked g c = record {
   at = c.in-Read.is;
   next = refl;
   header = c.in-Ok.ensures.bytes;
-  page = c.as_bytes.ensures.page;
+  page = c.is_page.ensures.page;
   content = c.read.ensures.content;
 }
 
@@ -16,7 +16,7 @@ returns-in-Err-clause-unmarked g c = record {
   at = c.in-Read.is;
   next = c.in-Read.is;
   header = tt;
-  page = c.as_bytes.ensures.page;
+  page = c.is_page.ensures.page;
   content = c.read.ensures.content;
 }
 
@@ -25,7 +25,7 @@ returns-in-Ok-write-clause-unmarked g c = record {
   at = c.in-Write.is;
   next = refl;
   header = refl;
-  page = c.as_bytes.ensures.page;
+  page = c.is_page.ensures.page;
   content = subst
       (λ (p : List ℕ). disk.Changes (disk.Writes c.args.block p) (g.D.Disk.content c.args.disk.now) (g.D.Disk.content c.write.new.self))
       c.unmarked.ensures c.in-Ok-write.ensures.written;
@@ -36,7 +36,7 @@ returns-in-Err-write-clause-unmarked g c = record {
   at = c.in-Write.is;
   next = c.in-Write.is;
   header = refl;
-  page = c.as_bytes.ensures.page;
+  page = c.is_page.ensures.page;
   content = subst
       (λ (p : List ℕ). disk.Changes (disk.FailsToWrite c.args.block p) (g.D.Disk.content c.args.disk.now) (g.D.Disk.content c.write.new.self))
       c.unmarked.ensures c.in-Err-write.ensures.failed;
@@ -47,7 +47,7 @@ returns-in-Ok-sync-clause-unmarked g c = record {
   at = c.in-Sync.is;
   next = c.in-Sync.is;
   header = refl;
-  page = c.as_bytes.ensures.page;
+  page = c.is_page.ensures.page;
   content = c.in-Ok-sync.ensures.synced;
 }
 
@@ -56,6 +56,6 @@ returns-in-Err-sync-clause-unmarked g c = record {
   at = c.in-Sync.is;
   next = c.in-Sync.is;
   header = refl;
-  page = c.as_bytes.ensures.page;
+  page = c.is_page.ensures.page;
   content = c.in-Err-sync.ensures.failed;
 }

@@ -20,7 +20,7 @@ step_task-requires-clause-task g c = subst IsFittingActor c.in-Task.is c.require
 pub returns-in-Off-clause-row : goal.returns-in-Off-clause-row
 returns-in-Off-clause-row g c =
     let still : SimulatesWhereTold (event.Step actor.Core) c.args.self.now c.args.self.now reply.Idle (g.D.Disk.content c.args.disk.now) (g.D.Disk.content c.args.disk.now) = λ k told.
-      (k, told, row_refused (event.Step actor.Core) c.args.self.now reply.Idle k (λ a stands. idle_core c.args.self.now k a stands (⊎_elim (λ e. inl (ap is_off (sym (ap (λ (w : World). w.core) c.self.view_is) ∙ e.1))) (λ e. inr (⊎_elim (λ run. inl (sym (ap (λ (w : World). w.core) c.self.view_is) ∙ run)) (λ sleep. inr (sym (ap (λ (w : World). w.core) c.self.view_is) ∙ sleep)) e)) c.in-Off.is))) in
+    (k, told, row_refused (event.Step actor.Core) c.args.self.now reply.Idle k (λ a stands. idle_core c.args.self.now k a stands (⊎_elim (λ e. inl (ap is_off (sym (ap (λ (w : World). w.core) c.self.view_is) ∙ e.1))) (λ e. inr (⊎_elim (λ run. inl (sym (ap (λ (w : World). w.core) c.self.view_is) ∙ run)) (λ sleep. inr (sym (ap (λ (w : World). w.core) c.self.view_is) ∙ sleep)) e)) c.in-Off.is))) in
     subst (λ (x : Actor). SimulatesWhereTold (event.Step x) c.args.self.now c.args.self.now reply.Idle (g.D.Disk.content c.args.disk.now) (g.D.Disk.content c.args.disk.now)) (sym c.in-Core.is) still
 
 pub returns-in-BootBegun-clause-row : goal.returns-in-BootBegun-clause-row
